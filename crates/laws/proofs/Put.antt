@@ -1,11 +1,11 @@
 -- Laws of `put` and `Wrote`: one piece behind another is the two in a row.
 -- Assumes nothing.
-use mathlib.Core.Path.{_≡_, refl, sym, ap, _∙_}
+use mathlib.Core.Path.{_≡_, refl, ap, _∙_}
 use mathlib.Core.List.{List, [], _∷_, _++_, append-assoc}
-use Prim.Native.Nat.{ℕ, zero, suc, _+_, _≤_, _<_}
+use Prim.Native.Nat.{ℕ, suc, _+_, _≤_, _<_}
 use native.Mathlib.Nat.{add-zero, zero-add}
 use native.Mathlib.Omega.{arith}
-use lib.ListN.{length, getD, set, take, drop, length-append, length-take}
+use lib.ListN.{length, set, take, drop, length-append, take-append-drop}
 use lib.Seq.{sets, sets-eq, length-sets, set-comm, take-set-le, drop-set-add, take-at, drop-at, length-take-le}
 use Rattle.laws.specs.Put.{put, Wrote}
 
@@ -28,6 +28,12 @@ pub put-before : (i at b : ℕ) (vs l : List ℕ) → i < at → set (put at vs 
 unfolding put
 put-before i at b [] l h = refl
 put-before i at b (v ∷ vs) l h = put-before i (suc at) b vs (set l at v) (omega arith) ∙ ap (λ (m : List ℕ). sets m (suc at) vs) (set-comm l at i v b (λ e. omega arith))
+
+-- two pieces apart from each other, in either order
+pub put-swap : (i at : ℕ) (xs ys l : List ℕ) → i + length xs ≤ at → put i xs (put at ys l) ≡ put at ys (put i xs l)
+unfolding put
+put-swap i at [] ys l h = refl
+put-swap i at (x ∷ xs) ys l h = rw (put-before i at x ys l (omega arith)) (put-swap (suc i) at xs ys (set l i x) (omega arith))
 
 pub put-cons : (p b : ℕ) (vs l : List ℕ) → set (put (suc p) vs l) p b ≡ put p (b ∷ vs) l
 unfolding put
@@ -53,6 +59,11 @@ drop-put n at [] l = refl
 drop-put n at (v ∷ vs) l =
     let e : suc (n + at) ≡ n + suc at = omega arith in
     rw e (drop-put n (suc at) vs (set l (n + at) v) ∙ ap (λ (m : List ℕ). sets m (suc at) vs) (drop-set-add n l at v))
+
+pub put-part : (n : ℕ) (vs l : List ℕ) → take n l ++ put 0 vs (drop n l) ≡ put n vs l
+put-part n vs l =
+    let e : drop n (put n vs l) ≡ put 0 vs (drop n l) = rw add-zero at (drop-put n 0 vs l) in
+    rw (← e, ← take-put n n vs l (omega arith)) (take-append-drop n (put n vs l))
 
 -- what was stored is found again
 pub put-here : (at : ℕ) (vs l : List ℕ) → at + length vs ≤ length l → take (length vs) (drop at (put at vs l)) ≡ vs

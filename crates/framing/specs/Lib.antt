@@ -1,0 +1,5 @@
+pub mod Cut
+pub mod Feeding
+pub mod Judge
+pub mod Reading
+pub mod Seal

@@ -1,0 +1,214 @@
+// How bytes become messages, and how a reply's content becomes a frame. This crate knows no message type.
+// Its limit is the length of the room that it is lent: a message that does not fit is swallowed, none of its bytes judged or kept.
+// Every function takes every input: any half-read message (nonsense too), any room (an empty one too), any piece.
+
+ghost use mathlib.Core.Path.{_≡_};
+ghost use Rattle.framing.specs.Reading.{afterOf, firstOf, stepOf, roomOf, runOf};
+ghost use Rattle.framing.specs.Judge.{unchecked, judgeOf, refusalOf};
+ghost use Rattle.framing.specs.Seal.{sealOf, sealEnd};
+
+// How far a message has been read: bytes taken, and what its header says so far.
+#[repr(C)]
+pub struct Half {
+    pub got: u32,
+    pub len: u16,
+    pub sum: u16,
+}
+
+// What a byte comes to: the message waits for more, or one has ended. A Message has its length and its sent checksum.
+pub enum Outcome {
+    Waiting(Half),
+    KeepAlive,
+    Stray,
+    Message(u16, u16),
+}
+
+// How many bytes of a piece were taken, and what they came to.
+pub struct Fed {
+    pub taken: usize,
+    pub outcome: Outcome,
+}
+
+pub enum Judged {
+    TooLong,
+    BadSum,
+    Whole,
+}
+
+// A byte is never widened with its sign.
+fn wide(b: u8) -> u16
+    ensures { λ r. ⌜ r ≡ b ⌝ }
+{
+    b as u16
+}
+
+// At a message start.
+fn first(b: u8) -> Outcome
+    ensures { λ r. ⌜ r ≡ firstOf b ⌝ }
+{
+    if b == 1 {
+        return Outcome::Waiting(Half {
+            got: 1,
+            len: 0,
+            sum: 0,
+        });
+    }
+    if b == 6 {
+        return Outcome::KeepAlive;
+    }
+    Outcome::Stray
+}
+
+// After byte `got`, counted from 0, of a frame whose header is in.
+fn after(got: u32, len: u16, sum: u16) -> Outcome
+    ensures { λ r. ⌜ r ≡ afterOf got len sum ⌝ }
+{
+    if got < 4 + (len as u32) {
+        Outcome::Waiting(Half {
+            got: got + 1,
+            len,
+            sum,
+        })
+    } else {
+        Outcome::Message(len, sum)
+    }
+}
+
+// One byte more of a message.
+pub fn step(h: Half, b: u8) -> Outcome
+    ensures { λ r. ⌜ r ≡ stepOf h b ⌝ }
+{
+    let got = h.got;
+    if got == 0 {
+        return first(b);
+    }
+    let n = wide(b);
+    if got == 1 {
+        return Outcome::Waiting(Half {
+            got: 2,
+            len: n * 256,
+            sum: 0,
+        });
+    }
+    if got == 2 {
+        return Outcome::Waiting(Half {
+            got: 3,
+            len: h.len / 256 * 256 + n,
+            sum: 0,
+        });
+    }
+    if got == 3 {
+        return Outcome::Waiting(Half {
+            got: 4,
+            len: h.len,
+            sum: n * 256,
+        });
+    }
+    if got == 4 {
+        return after(4, h.len, h.sum / 256 * 256 + n);
+    }
+    after(got, h.len, h.sum)
+}
+
+// A content byte of a message that the room can hold is kept.
+fn keep(room: &mut [u8], h: Half, b: u8)
+    ensures { λ r. ⌜ now (room .exit) ≡ roomOf (now (room .entry)) h b ⌝ }
+{
+    let got = h.got;
+    if got < 5 {
+        return;
+    }
+    if room.len() < (h.len as usize) {
+        return;
+    }
+    let at = (got - 5) as usize;
+    if at < room.len() {
+        room[at] = b;
+    }
+}
+
+// The bytes of a piece are taken one by one until a message ends or the piece does.
+pub fn feed(half: Half, room: &mut [u8], piece: &[u8]) -> Fed
+    ensures { λ r. ⌜ (r ≡ (runOf 0 half (now (room .entry)) (now (piece .entry))) .fed) × (now (room .exit) ≡ (runOf 0 half (now (room .entry)) (now (piece .entry))) .room) ⌝ }
+{
+    let mut h = half;
+    let mut i: usize = 0;
+    let end = loop {
+        if piece.len() <= i {
+            break Fed {
+                taken: i,
+                outcome: Outcome::Waiting(h),
+            };
+        }
+        let b = piece[i];
+        keep(room, h, b);
+        let e = step(h, b);
+        i += 1;
+        match e {
+            Outcome::Waiting(n) => {
+                h = n;
+            }
+            _ => {
+                break Fed {
+                    taken: i,
+                    outcome: e,
+                };
+            }
+        }
+    };
+    end
+}
+
+fn passes(sum: u16, strict: bool) -> bool
+    ensures { λ r. ⌜ r ≡ unchecked sum strict ⌝ }
+{
+    if strict { false } else { sum == 65535 }
+}
+
+// A message that has ended: too long for the room, or with a checksum that differs, or whole.
+pub fn judge(len: u16, sum: u16, room: &[u8], strict: bool) -> Judged
+    ensures { λ r. ⌜ r ≡ judgeOf len sum (now (room .entry)) strict ⌝ }
+{
+    let n = len as usize;
+    if room.len() < n {
+        return Judged::TooLong;
+    }
+    if passes(sum, strict) {
+        return Judged::Whole;
+    }
+    let content = crc::crc16(&room[..n]);
+    if content == sum {
+        Judged::Whole
+    } else {
+        Judged::BadSum
+    }
+}
+
+// The answer number of a judgement, 0 for a whole message.
+pub fn refusal(j: Judged) -> u8
+    ensures { λ r. ⌜ r ≡ refusalOf j ⌝ }
+{
+    match j {
+        Judged::TooLong => 6,
+        Judged::BadSum => 7,
+        Judged::Whole => 0,
+    }
+}
+
+// The five header bytes before n content bytes that stand from the sixth byte on. Gives the frame's length.
+pub fn seal(buf: &mut [u8], n: usize) -> usize
+    ensures { λ r. ⌜ (r ≡ sealEnd (now (buf .entry)) n) × (now (buf .exit) ≡ sealOf (now (buf .entry)) n) ⌝ }
+{
+    if 65535 < n {
+        return 0;
+    }
+    let end = n + 5;
+    if buf.len() < end {
+        return 0;
+    }
+    let sum = crc::crc16(&buf[5..end]);
+    let a = words::put(buf, 0, 1, 1);
+    let b = words::put(buf, a, 2, n as u64);
+    words::put(buf, b, 2, sum as u64);
+    end
+}
