@@ -1,0 +1,261 @@
+// Runs the published strings and frames, and frames at the edges of document 01, and prints what becomes of each.
+// What it must print is in `stdout`, taken from the documents (docs/VECTORS.md says which line from where).
+
+use framing::Fed;
+use framing::Half;
+use framing::Outcome;
+
+fn text(s: &[u8]) {
+    io::write_all(1, s);
+}
+
+fn number(n: usize) {
+    io::print_decimal(1, n as u64);
+}
+
+fn fresh() -> Half {
+    Half {
+        got: 0,
+        len: 0,
+        sum: 0,
+    }
+}
+
+// One call of the framing, with a room of 01's 1,024 bytes.
+fn offer(half: Half, room: &mut [u8; 1024], piece: &[u8]) -> Fed {
+    framing::feed(half, room, piece)
+}
+
+// A string of 001, "CRC Test Strings", and its checksum.
+fn string(s: &[u8]) {
+    text(b"crc ");
+    io::print_hex(1, crc::crc16(s) as u64, 4);
+    text(b" \"");
+    text(s);
+    text(b"\"\n");
+}
+
+// What a call came to, by 01's answer numbers; 1 stands for a message that the layers above would serve.
+fn verdict(o: Outcome, room: &[u8; 1024]) -> u8 {
+    match o {
+        Outcome::Waiting(_) => 0,
+        Outcome::KeepAlive => 2,
+        Outcome::Stray => 5,
+        Outcome::Message(len, sum) => {
+            let j = framing::judge(len, sum, room, false);
+            let no = framing::refusal(j);
+            if no == 0 { 1 } else { no }
+        }
+    }
+}
+
+fn say(v: u8) {
+    match v {
+        0 => text(b"waits"),
+        1 => text(b"whole"),
+        2 => text(b"keep-alive"),
+        5 => text(b"stray"),
+        6 => text(b"too long"),
+        7 => text(b"bad sum"),
+        _ => text(b"?"),
+    }
+}
+
+fn half_after(o: Outcome) -> Half {
+    match o {
+        Outcome::Waiting(h) => h,
+        _ => fresh(),
+    }
+}
+
+fn same_room(a: &[u8; 1024], b: &[u8; 1024]) -> bool {
+    check::same(a, b)
+}
+
+// Whether a frame cut in two before byte k comes to the same as in one piece: verdict v, and what is kept in the room.
+fn alike(bytes: &[u8], k: usize, v: u8, room: &[u8; 1024]) -> bool {
+    let mut cut = [0u8; 1024];
+    if bytes.len() < k {
+        return false;
+    }
+    let a = offer(fresh(), &mut cut, &bytes[..k]);
+    let o = a.outcome;
+    if a.taken != k {
+        return false;
+    }
+    let b = offer(half_after(o), &mut cut, &bytes[k..]);
+    let p = b.outcome;
+    if b.taken != bytes.len() - k {
+        return false;
+    }
+    if verdict(p, &cut) != v {
+        return false;
+    }
+    same_room(room, &cut)
+}
+
+// How many of the places before a byte it may be cut at with the same end.
+fn places(bytes: &[u8], v: u8, room: &[u8; 1024]) -> usize {
+    let mut n: usize = 0;
+    for k in 0..bytes.len() {
+        if alike(bytes, k, v, room) {
+            n += 1;
+        }
+    }
+    n
+}
+
+// A frame in one piece, and then cut before each of its bytes.
+fn frame(name: &[u8], bytes: &[u8]) {
+    let mut room = [0u8; 1024];
+    let f = offer(fresh(), &mut room, bytes);
+    let o = f.outcome;
+    let v = verdict(o, &room);
+    text(name);
+    text(b": taken ");
+    number(f.taken);
+    text(b" of ");
+    number(bytes.len());
+    text(b", ");
+    say(v);
+    text(b", alike in ");
+    number(places(bytes, v, &room));
+    text(b" cuts\n");
+}
+
+// How far joined bytes have been offered, and what is half read there.
+struct Place {
+    half: Half,
+    at: usize,
+}
+
+// The bytes from a place on are offered in one call, and what it came to is printed.
+fn go_on(room: &mut [u8; 1024], bytes: &[u8], place: Place) -> Place {
+    let at = place.at;
+    let half = place.half;
+    if bytes.len() <= at {
+        return place;
+    }
+    let f = offer(half, room, &bytes[at..]);
+    let o = f.outcome;
+    text(b" ");
+    number(f.taken);
+    text(b" ");
+    say(verdict(o, room));
+    if bytes.len() - at < f.taken {
+        return place;
+    }
+    Place {
+        half: half_after(o),
+        at: at + f.taken,
+    }
+}
+
+// Joined bytes, offered again until they are used up: each call takes a byte at least.
+fn stream(name: &[u8], bytes: &[u8]) {
+    let mut room = [0u8; 1024];
+    let mut place = Place {
+        half: fresh(),
+        at: 0,
+    };
+    text(name);
+    text(b":");
+    for turn in 0..bytes.len() {
+        place = go_on(&mut room, bytes, place);
+    }
+    text(b"\n");
+}
+
+// The frames of 001, "Example Transactions" and "Example Messages", and the Monitor capture of 000.
+fn published() {
+    frame(
+        b"login request",
+        b"\x01\x00\x0d\x60\xb7\x7e\x05\x6a\x6e\x69\x6f\x72\x05\x6a\x6e\x69\x6f\x72",
+    );
+    frame(
+        b"login request, sum ffff",
+        b"\x01\x00\x0d\xff\xff\x7e\x05\x6a\x6e\x69\x6f\x72\x05\x6a\x6e\x69\x6f\x72",
+    );
+    frame(b"login acknowledgement", b"\x01\x00\x02\xf0\x20\x7d\x80");
+    frame(
+        b"registry subscription",
+        b"\x01\x00\x2c\x2c\x04\x0f\x00\x03\x00\x00\x0b\x44\x65\x76\x69\x63\x65\x2f\x44\x65\x73\x63\x00\x01\x08\x24\x56\x65\x72\x73\x69\x6f\x6e\x00\x02\x0d\x24\x53\x65\x72\x69\x61\x6c\x4e\x75\x6d\x62\x65\x72",
+    );
+    frame(
+        b"registry subscription response",
+        b"\x01\x00\x31\x98\x9a\x0c\x00\x03\x00\x00\x16\x6a\x72\x33\x31\x30\x20\x44\x65\x76\x65\x6c\x6f\x70\x6d\x65\x6e\x74\x20\x55\x6e\x69\x74\x00\x01\x08\x32\x2e\x30\x31\x2e\x33\x34\x36\x00\x02\x07\x34\x39\x30\x34\x30\x30\x34",
+    );
+    frame(
+        b"read registry keys",
+        b"\x01\x00\x13\xbe\x61\x0b\x00\x01\x00\xde\x0d\x24\x53\x65\x72\x69\x61\x6c\x4e\x75\x6d\x62\x65\x72",
+    );
+    frame(
+        b"registry response",
+        b"\x01\x00\x0f\x9e\xd2\x0c\x00\x01\x00\xde\x09\x31\x30\x35\x31\x30\x30\x33\x32\x38",
+    );
+    frame(
+        b"monitor capture",
+        b"\x01\x00\x60\x68\x85\x01\x0e\x6a\x72\x33\x31\x30\x20\x76\x32\x2e\x31\x34\x2e\x31\x37\x00\x00\x00\x00\x00\x00\x00\x00\x00\x00\x00\x00\x00\x00\x00\x00\x00\x00\x00\x00\x00\x00\x00\x00\x00\x00\x00\x00\x00\x00\x00\x00\x00\x00\x00\x00\x00\x00\x00\x00\x00\x00\x00\x00\x00\x00\x00\x00\x00\x00\x00\x00\x00\x00\x00\x00\x00\x00\x00\x00\x00\x00\x00\x00\x00\x00\x00\x00\x00\x00\x00\x00\x00\x00\x01\x19\x33\xca\x9f\xeb",
+    );
+}
+
+// Small frames at the edges: a sum that differs in one bit, no content, and 0x01 and 0x06 inside content.
+fn small() {
+    frame(
+        b"acknowledgement, one bit off",
+        b"\x01\x00\x02\xf0\x21\x7d\x80",
+    );
+    frame(b"N 0, sum 0000", b"\x01\x00\x00\x00\x00");
+    frame(b"N 0, sum ffff", b"\x01\x00\x00\xff\xff");
+    frame(b"N 0, sum 0001", b"\x01\x00\x00\x00\x01");
+    frame(
+        b"01 and 06 inside",
+        b"\x01\x00\x06\x4c\xaa\x01\x06\x01\x06\x06\x01",
+    );
+}
+
+// Frames at the limit of 1,024 bytes: one that is just held, with and without its true sum, and one byte more.
+fn limits() {
+    let mut held = [6u8; 1029];
+    held[0] = 1;
+    held[1] = 4;
+    held[2] = 0;
+    held[3] = 255;
+    held[4] = 255;
+    frame(b"N 1024, sum ffff", &held);
+    held[3] = 139;
+    held[4] = 96;
+    frame(b"N 1024, true sum", &held);
+    held[4] = 97;
+    frame(b"N 1024, one bit off", &held);
+    let mut over = [1u8; 1030];
+    over[0] = 1;
+    over[1] = 4;
+    over[2] = 1;
+    over[3] = 255;
+    over[4] = 255;
+    frame(b"N 1025, sum ffff", &over);
+}
+
+// Joined messages, and the longest frame of all with a keep-alive behind it.
+fn streams() {
+    stream(
+        b"joined",
+        b"\x01\x00\x0d\x60\xb7\x7e\x05\x6a\x6e\x69\x6f\x72\x05\x6a\x6e\x69\x6f\x72\x01\x00\x02\xf0\x20\x7d\x80\x06\x07\x01\x00\x02\xf0\x21\x7d\x80\x00\x01\x00\x13\xbe\x61\x0b\x00\x01\x00\xde",
+    );
+    let mut longest = [6u8; 65541];
+    longest[0] = 1;
+    longest[1] = 255;
+    longest[2] = 255;
+    stream(b"N 65535", &longest);
+}
+
+fn main() {
+    string(b"0123456789");
+    string(b"ABCDEFG");
+    string(b"");
+    published();
+    small();
+    limits();
+    streams();
+}
