@@ -3,3 +3,4 @@ pub mod Law
 pub mod Reading
 pub mod Sealing
 pub mod Turns
+pub mod Unique

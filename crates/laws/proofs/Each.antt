@@ -42,6 +42,14 @@ module _ {A : Type 0} where
   eachAt-map g [] = refl
   eachAt-map g (x ∷ xs) = ap (λ (l : List A). g x ∷ l) (eachAt-map g xs)
 
+  -- every element replaced by what stands at its place in another list
+  pub fill : {B : Type 0} (g : B → A) (d : B) (bs : List B) (xs : List A) → length xs ≡ length bs → eachAt (λ k _. g (getD bs k d)) xs ≡ map g bs
+  unfolding eachAt
+  fill g d [] [] e = refl
+  fill g d [] (x ∷ xs) e = absurd (omega arith)
+  fill g d (b ∷ bs) [] e = absurd (omega arith)
+  fill g d (b ∷ bs) (x ∷ xs) e = ap (λ (l : List A). g b ∷ l) (fill g d bs xs (omega arith))
+
 pub record Mapping {A : Type 0} (f : ℕ → A → A) (n : ℕ) (xs all : List A) (k : ℕ) : Type 0 where
   pub in-range : k ≤ n
   pub size : length xs ≡ n
