@@ -1,0 +1,4 @@
+pub mod Calls
+pub mod Held
+pub mod PowerUp
+pub mod Rooms

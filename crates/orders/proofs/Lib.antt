@@ -1,0 +1,5 @@
+pub mod Entries
+pub mod Judging
+pub mod Orders
+pub mod Places
+pub mod Unique

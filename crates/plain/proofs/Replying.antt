@@ -1,0 +1,86 @@
+-- A reply's content written behind the header's place, and sealed. Assumes nothing.
+use mathlib.Core.Path.{_≡_, refl, ap, sym, _∙_}
+use mathlib.Core.Bool.{Bool, true, false}
+use mathlib.Core.List.{List, [], _∷_, _++_, append-nil}
+use Prim.Native.Nat.{ℕ, _+_, _-_, _≤_}
+use native.Mathlib.Omega.{arith}
+use borrow.Author.Tests.{le-leb, ne-eqb}
+use lib.Dec.{eqb, leb}
+use lib.ListN.{length, take, drop, length-drop, drop-of-length-le}
+use lib.Seq.{take-all}
+use Rattle.laws.specs.Put.{put}
+use Rattle.laws.proofs.Put.{put-part, put-none, length-put}
+use Rattle.framing.specs.Seal.{frameOf, sealEnd}
+use Rattle.framing.proofs.Sealing.{seal-yes, seal-frame}
+use Rattle.replies.specs.Replies.{Sent}
+use Rattle.plain.specs.declared.Plain.{Plain}
+use Rattle.plain.specs.declared.Served.{Served}
+use Rattle.plain.specs.Calls.{servedOf, given, sealedReply, sealedServed, Does}
+use Rattle.plain.specs.Events.{Did, did, sealing}
+use Rattle.plain.specs.Obeying.{monitorSet, clockTold}
+
+-- ---- the part behind the header, lent to a writer and given back
+
+part-rest : (a : ℕ) (l : List ℕ) → take (length l - a) (drop a l) ≡ drop a l
+part-rest a l = take-all (length l - a) (drop a l) (omega (arith, length-drop a l))
+
+pub part-long : (a : ℕ) (l : List ℕ) → length (take (length l - a) (drop a l)) ≡ length l - a
+part-long a l = ap length (part-rest a l) ∙ length-drop a l
+
+pub given-back : (a : ℕ) (vs l out : List ℕ) → out ≡ put 0 vs (take (length l - a) (drop a l)) → take a l ++ (out ++ drop (length l - a) (drop a l)) ≡ put a vs l
+given-back a vs l out e =
+    let z : drop (length l - a) (drop a l) ≡ [] = drop-of-length-le (drop a l) {i = length l - a} (omega (arith, length-drop a l)) in
+    rw (z, append-nil, e, part-rest a l) (put-part a vs l)
+
+-- ---- the header before it
+
+sealed-none : (d : Did) (l l′ l″ : List ℕ) (s r : Served) → d .reply ≡ [] → s ≡ given d → l′ ≡ put 5 (d .reply) l
+    → (r ≡ sealedServed s l′) × (l″ ≡ sealedReply (s .len) l′) → Does (sealing d) l l″ r
+sealed-none d l l′ l″ s r e g b f =
+    record {
+      gives = f .0 ∙ rw (g, e);
+      leaves = f .1 ∙ rw (g, e, b, e, put-none 5 l) (sym (put-none 0 l));
+    }
+
+sealed-some : (d : Did) (x : ℕ) (xs l l′ l″ : List ℕ) (s r : Served) → 4096 ≤ length l → length (x ∷ xs) ≤ 4091 → d .reply ≡ x ∷ xs → s ≡ given d
+    → l′ ≡ put 5 (d .reply) l → (r ≡ sealedServed s l′) × (l″ ≡ sealedReply (s .len) l′) → Does (sealing d) l l″ r
+sealed-some d x xs l l′ l″ s r room short e g b f =
+    let vs : List ℕ = x ∷ xs in
+    let n : eqb (length vs) 0 ≡ false = ne-eqb (length vs) 0 (λ q. omega arith) in
+    let h : length vs + 5 ≤ length (put 5 vs l) = omega (arith, length-put 5 vs l) in
+    let end : sealEnd (put 5 vs l) (length vs) ≡ length (frameOf vs) = sym (seal-yes (put 5 vs l) (length vs) (omega arith) h .0) ∙ omega arith in
+    record {
+      gives = f .0 ∙ rw (g, e, n, b, e, end);
+      leaves = f .1 ∙ rw (g, e, n, b, e) (seal-frame l vs (omega arith) (omega arith));
+    }
+
+-- what was done goes out as it says
+pub sealed-does : (d : Did) (l l′ l″ : List ℕ) (s r : Served) → 4096 ≤ length l → length (d .reply) ≤ 4091 → s ≡ given d → l′ ≡ put 5 (d .reply) l
+    → (r ≡ sealedServed s l′) × (l″ ≡ sealedReply (s .len) l′) → Does (sealing d) l l″ r
+sealed-does d l l′ l″ s r room short g b f = go (d .reply) refl short
+  where
+    go : (vs : List ℕ) → d .reply ≡ vs → length (d .reply) ≤ 4091 → Does (sealing d) l l″ r
+    go [] e h = sealed-none d l l′ l″ s r e g b f
+    go (x ∷ xs) e h = sealed-some d x xs l l′ l″ s r room (rw e at h) e g b f
+
+-- ---- a writer's reply
+
+pub sent-yes : {room r : ℕ} {vs o₀ o : List ℕ} → room ≤ length o₀ → Sent room vs o₀ o r → (r ≡ length vs) × (o ≡ put 0 vs o₀)
+sent-yes {room} {r} {vs} {o₀} h s = let t : leb room (length o₀) ≡ true = le-leb room (length o₀) h in (rw t at (s .len), rw t at (s .bytes))
+
+-- served with this reply, whatever the plain machine then holds
+pub replied-does : {room n : ℕ} {p : Plain} {vs o₀ o : List ℕ} {r : Served} → room ≤ length o₀ → Sent room vs o₀ o n → r ≡ servedOf p 1 n → Does (did p 1 vs) o₀ o r
+replied-does h s e = record { gives = e ∙ rw (sent-yes h s .0); leaves = sent-yes h s .1 }
+
+-- served with no reply
+pub silent : {d : Did} {o : List ℕ} {r : Served} → d .reply ≡ [] → r ≡ given d → Does d o o r
+silent {d} {o} e g = record { gives = g; leaves = rw e (sym (put-none 0 o)) }
+
+-- the orders that concern a connection or the clock alone send nothing
+pub set-silent : (c : ℕ) (on : Bool) (p : Plain) → monitorSet c on p .reply ≡ []
+unfolding monitorSet
+set-silent c on p = refl
+
+pub clock-silent : (v : ℕ) (p : Plain) → clockTold v p .reply ≡ []
+unfolding clockTold
+clock-silent v p = refl

@@ -1,0 +1,4 @@
+pub mod Channel
+pub mod Finding
+pub mod Theorems
+pub mod Turns

@@ -1,0 +1,10 @@
+pub mod Alarms
+pub mod Answers
+pub mod Bits
+pub mod Commands
+pub mod Devices
+pub mod Edits
+pub mod Entries
+pub mod Held
+pub mod Levels
+pub mod Time
