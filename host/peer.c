@@ -1,0 +1,735 @@
+/* The same box in plain C. Sentences in quotes are those of the rules. */
+#include "peer.h"
+
+#include <string.h>
+
+enum {
+    START = 0x01,
+    ACK = 0x06,
+    HEADER = 5,             /* start byte, length, checksum */
+    UNCHECKED = 0xFFFF      /* "A sent checksum of 0xFFFF passes unchecked." */
+};
+
+enum type {
+    MONITOR = 1,
+    REQUEST = 5,
+    CLOCK = 6,
+    SET_CLOCK = 7,
+    USAGES = 8,
+    COMMAND = 10,
+    READ_DEVICES = 21,
+    DEVICES_READ = 22,
+    WRITE_DEVICES = 23,
+    DEVICES_WRITTEN = 24,
+    ENUMERATE_DEVICES = 26,
+    DEVICES_ENUMERATED = 27
+};
+
+/* ---- Numbers in bytes: big-endian and unsigned */
+
+static inline uint16_t get16(const uint8_t *p)
+{
+    return (uint16_t)(p[0] << 8 | p[1]);
+}
+
+static inline uint32_t get32(const uint8_t *p)
+{
+    return (uint32_t)get16(p) << 16 | get16(p + 2);
+}
+
+static inline uint64_t get64(const uint8_t *p)
+{
+    return (uint64_t)get32(p) << 32 | get32(p + 4);
+}
+
+/* Each put gives the place behind what it wrote. */
+static inline uint8_t *put8(uint8_t *p, uint8_t x)
+{
+    *p = x;
+    return p + 1;
+}
+
+static inline uint8_t *put16(uint8_t *p, uint16_t x)
+{
+    p[0] = (uint8_t)(x >> 8);
+    p[1] = (uint8_t)x;
+    return p + 2;
+}
+
+static inline uint8_t *put32(uint8_t *p, uint32_t x)
+{
+    put16(p, (uint16_t)(x >> 16));
+    put16(p + 2, (uint16_t)x);
+    return p + 4;
+}
+
+static inline uint8_t *put64(uint8_t *p, uint64_t x)
+{
+    put32(p, (uint32_t)(x >> 32));
+    put32(p + 4, (uint32_t)x);
+    return p + 8;
+}
+
+/* ---- Checksum */
+
+/* Entry n: n shifted right eight times, and 0xA001 put over it (exclusive or) for each 1 that falls out. */
+static const uint16_t crc_table[256] = {
+    0x0000, 0xC0C1, 0xC181, 0x0140, 0xC301, 0x03C0, 0x0280, 0xC241,
+    0xC601, 0x06C0, 0x0780, 0xC741, 0x0500, 0xC5C1, 0xC481, 0x0440,
+    0xCC01, 0x0CC0, 0x0D80, 0xCD41, 0x0F00, 0xCFC1, 0xCE81, 0x0E40,
+    0x0A00, 0xCAC1, 0xCB81, 0x0B40, 0xC901, 0x09C0, 0x0880, 0xC841,
+    0xD801, 0x18C0, 0x1980, 0xD941, 0x1B00, 0xDBC1, 0xDA81, 0x1A40,
+    0x1E00, 0xDEC1, 0xDF81, 0x1F40, 0xDD01, 0x1DC0, 0x1C80, 0xDC41,
+    0x1400, 0xD4C1, 0xD581, 0x1540, 0xD701, 0x17C0, 0x1680, 0xD641,
+    0xD201, 0x12C0, 0x1380, 0xD341, 0x1100, 0xD1C1, 0xD081, 0x1040,
+    0xF001, 0x30C0, 0x3180, 0xF141, 0x3300, 0xF3C1, 0xF281, 0x3240,
+    0x3600, 0xF6C1, 0xF781, 0x3740, 0xF501, 0x35C0, 0x3480, 0xF441,
+    0x3C00, 0xFCC1, 0xFD81, 0x3D40, 0xFF01, 0x3FC0, 0x3E80, 0xFE41,
+    0xFA01, 0x3AC0, 0x3B80, 0xFB41, 0x3900, 0xF9C1, 0xF881, 0x3840,
+    0x2800, 0xE8C1, 0xE981, 0x2940, 0xEB01, 0x2BC0, 0x2A80, 0xEA41,
+    0xEE01, 0x2EC0, 0x2F80, 0xEF41, 0x2D00, 0xEDC1, 0xEC81, 0x2C40,
+    0xE401, 0x24C0, 0x2580, 0xE541, 0x2700, 0xE7C1, 0xE681, 0x2640,
+    0x2200, 0xE2C1, 0xE381, 0x2340, 0xE101, 0x21C0, 0x2080, 0xE041,
+    0xA001, 0x60C0, 0x6180, 0xA141, 0x6300, 0xA3C1, 0xA281, 0x6240,
+    0x6600, 0xA6C1, 0xA781, 0x6740, 0xA501, 0x65C0, 0x6480, 0xA441,
+    0x6C00, 0xACC1, 0xAD81, 0x6D40, 0xAF01, 0x6FC0, 0x6E80, 0xAE41,
+    0xAA01, 0x6AC0, 0x6B80, 0xAB41, 0x6900, 0xA9C1, 0xA881, 0x6840,
+    0x7800, 0xB8C1, 0xB981, 0x7940, 0xBB01, 0x7BC0, 0x7A80, 0xBA41,
+    0xBE01, 0x7EC0, 0x7F80, 0xBF41, 0x7D00, 0xBDC1, 0xBC81, 0x7C40,
+    0xB401, 0x74C0, 0x7580, 0xB541, 0x7700, 0xB7C1, 0xB681, 0x7640,
+    0x7200, 0xB2C1, 0xB381, 0x7340, 0xB101, 0x71C0, 0x7080, 0xB041,
+    0x5000, 0x90C1, 0x9181, 0x5140, 0x9301, 0x53C0, 0x5280, 0x9241,
+    0x9601, 0x56C0, 0x5780, 0x9741, 0x5500, 0x95C1, 0x9481, 0x5440,
+    0x9C01, 0x5CC0, 0x5D80, 0x9D41, 0x5F00, 0x9FC1, 0x9E81, 0x5E40,
+    0x5A00, 0x9AC1, 0x9B81, 0x5B40, 0x9901, 0x59C0, 0x5880, 0x9841,
+    0x8801, 0x48C0, 0x4980, 0x8941, 0x4B00, 0x8BC1, 0x8A81, 0x4A40,
+    0x4E00, 0x8EC1, 0x8F81, 0x4F40, 0x8D01, 0x4DC0, 0x4C80, 0x8C41,
+    0x4400, 0x84C1, 0x8581, 0x4540, 0x8701, 0x47C0, 0x4680, 0x8641,
+    0x8201, 0x42C0, 0x4380, 0x8341, 0x4100, 0x81C1, 0x8081, 0x4040,
+};
+
+static uint16_t crc16(const uint8_t *p, size_t n)
+{
+    uint16_t crc = 0;
+    for (const uint8_t *end = p + n; p < end; p++) {
+        crc = (uint16_t)(crc >> 8 ^ crc_table[(crc ^ *p) & 0xFF]);
+    }
+    return crc;
+}
+
+/* The header before n content bytes that stand behind its place. Gives the frame's length. */
+static size_t seal(uint8_t *reply, size_t n)
+{
+    reply[0] = START;
+    put16(reply + 1, (uint16_t)n);
+    put16(reply + 3, crc16(reply + HEADER, n));
+    return HEADER + n;
+}
+
+/* ---- Tables */
+
+/* "When the level of an input or the state of a relay really changes, Monitor becomes due on each open connection of rank 1 or 2 that has
+ * it on, the sender included." */
+static void mark_due(peer_box *box)
+{
+    for (int c = 0; c < WELLACORN_CONNECTIONS; c++) {
+        wellacorn_line *line = &box->connections[c].line;
+        line->due |= line->is_open & (line->rank != 0) & line->monitor;
+    }
+}
+
+/* Says whether the state really changed. */
+static bool put_relay(wellacorn_relay *relay, bool closed)
+{
+    bool changed = relay->closed != closed;
+    relay->closed = closed;
+    return changed;
+}
+
+static uint64_t grown(uint64_t ms, uint32_t d)
+{
+    uint64_t sum = ms + d;
+    return sum < ms ? UINT64_MAX : sum;
+}
+
+static uint8_t alarm_state(const wellacorn_input *in)
+{
+    return in->alarm & in->level;
+}
+
+static uint8_t count_alarm(uint32_t count, uint32_t setpoint)
+{
+    return (setpoint != 0) & (count > setpoint);
+}
+
+static uint8_t usage_alarm(uint64_t usage, uint64_t setpoint)
+{
+    return (setpoint != 0) & (usage >= setpoint);
+}
+
+/* ---- Devices: inputs at 0 to 7, relays at 8 to 15 */
+
+enum { DEVICES = 2 * WELLACORN_CHANNELS, UNKNOWN = -1 };
+
+/* din1 to din8 are 0x01FF to 0x08FF, rout1 to rout8 are 0x0101FF to 0x0108FF. */
+static uint64_t id_of(unsigned device)
+{
+    unsigned k = device < WELLACORN_CHANNELS ? 0x01 + device : 0x0101 + device - WELLACORN_CHANNELS;
+    return (uint64_t)k << 8 | 0xFF;
+}
+
+static int device_of(uint64_t id)
+{
+    uint64_t k = id >> 8;
+    if ((id & 0xFF) != 0xFF) {
+        return UNKNOWN;
+    }
+    if (k - 0x01 < WELLACORN_CHANNELS) {
+        return (int)(k - 0x01);
+    }
+    if (k - 0x0101 < WELLACORN_CHANNELS) {
+        return (int)(k - 0x0101) + WELLACORN_CHANNELS;
+    }
+    return UNKNOWN;
+}
+
+/* ---- Replies: each writes its content and gives the place behind it */
+
+/* What the Monitor message and the read block say alike of an input. */
+static uint8_t *put_input(uint8_t *p, const wellacorn_input *in)
+{
+    p = put8(p, in->level);
+    p = put8(p, alarm_state(in));
+    p = put32(p, in->count);
+    p = put8(p, count_alarm(in->count, in->setpoint_one));
+    return put8(p, count_alarm(in->count, in->setpoint_two));
+}
+
+static uint8_t *put_monitor(uint8_t *p, const wellacorn_tables *tables)
+{
+    static const uint8_t version[] = "\x0Fjr310 3.10.0001";
+
+    p = put8(p, MONITOR);
+    memcpy(p, version, sizeof version - 1);
+    p += sizeof version - 1;
+    for (int k = 0; k < WELLACORN_CHANNELS; k++) {
+        p = put_input(p, &tables->inputs[k]);
+    }
+    for (int k = 0; k < WELLACORN_CHANNELS; k++) {
+        p = put8(p, tables->relays[k].closed);
+    }
+    return put64(p, tables->clock);
+}
+
+static uint8_t *put_clock(uint8_t *p, const wellacorn_tables *tables)
+{
+    p = put8(p, CLOCK);
+    return put64(p, tables->clock);
+}
+
+static uint8_t *put_usages(uint8_t *p, const wellacorn_tables *tables)
+{
+    p = put8(p, USAGES);
+    for (int k = 0; k < WELLACORN_CHANNELS; k++) {
+        p = put64(p, tables->inputs[k].usage);
+    }
+    for (int k = 0; k < WELLACORN_CHANNELS; k++) {
+        p = put64(p, tables->relays[k].usage);
+    }
+    return put64(p, tables->clock);
+}
+
+/* ID, block length, block. "An unknown ID has length 0." */
+static uint8_t *put_device(uint8_t *p, const wellacorn_tables *tables, uint64_t id)
+{
+    int device = device_of(id);
+
+    p = put64(p, id);
+    if (device == UNKNOWN) {
+        return put16(p, 0);
+    }
+    if (device < WELLACORN_CHANNELS) {
+        const wellacorn_input *in = &tables->inputs[device];
+        p = put16(p, 17);
+        p = put_input(p, in);
+        p = put64(p, in->usage);
+        return put8(p, usage_alarm(in->usage, in->usage_setpoint));
+    }
+    const wellacorn_relay *relay = &tables->relays[device - WELLACORN_CHANNELS];
+    p = put16(p, 10);
+    p = put8(p, relay->closed);
+    p = put64(p, relay->usage);
+    return put8(p, usage_alarm(relay->usage, relay->usage_setpoint));
+}
+
+/* ---- Messages. Each is given its content of n bytes and writes a reply's content to *end on, which it moves behind it. */
+
+static uint8_t request(peer_box *box, wellacorn_line *line, const uint8_t *content, size_t n, uint8_t **end)
+{
+    if (n < 3) {
+        return WELLACORN_BAD_LENGTH;
+    }
+    /* "In types 5 and 10 the request or action is judged (11) as soon as the content holds it, before the length." */
+    unsigned asked = get16(content + 1);
+    if (asked > 5 || asked == 3) {
+        return WELLACORN_OUT_OF_RANGE;
+    }
+    if (n != 3 && n != 7) {
+        return WELLACORN_BAD_LENGTH;
+    }
+    switch (asked) {
+    case 0:
+        *end = put_clock(*end, &box->tables);
+        break;
+    case 1:
+        *end = put_monitor(*end, &box->tables);
+        break;
+    case 2:
+        *end = put_usages(*end, &box->tables);
+        break;
+    case 4:
+        line->monitor = false;
+        line->due = false;
+        break;
+    default:
+        line->monitor = true;
+        break;
+    }
+    return WELLACORN_SERVED;
+}
+
+static uint8_t set_clock(peer_box *box, const uint8_t *content, size_t n)
+{
+    if (n != 9) {
+        return WELLACORN_BAD_LENGTH;
+    }
+    box->tables.clock = get64(content + 1);
+    return WELLACORN_SERVED;
+}
+
+/* "Only masked relays take the state." */
+static bool change_block(wellacorn_relay *relays, unsigned mask, unsigned state)
+{
+    bool changed = false;
+    for (int k = 0; k < WELLACORN_CHANNELS; k++) {
+        if (mask >> k & 1) {
+            changed |= put_relay(&relays[k], state >> k & 1);
+        }
+    }
+    return changed;
+}
+
+static uint8_t command(peer_box *box, const uint8_t *content, size_t n)
+{
+    enum { CLOSE = 1, OPEN = 2, TOGGLE = 3, CLEAR_COUNT = 5, CLEAR_INPUT_USAGE = 8, CLEAR_RELAY_USAGE = 9, BLOCK = 10 };
+
+    if (n < 2) {
+        return WELLACORN_BAD_LENGTH;
+    }
+    unsigned action = content[1];
+    if (action < CLOSE || action > BLOCK || action == 4 || action == 6 || action == 7) {
+        return WELLACORN_OUT_OF_RANGE;
+    }
+    if (n != 4) {
+        return WELLACORN_BAD_LENGTH;
+    }
+    bool changed = false;
+    if (action == BLOCK) {
+        changed = change_block(box->tables.relays, content[2], content[3]);
+    } else {
+        unsigned channel = get16(content + 2);
+        if (channel < 1 || channel > WELLACORN_CHANNELS) {
+            return WELLACORN_OUT_OF_RANGE;
+        }
+        wellacorn_input *in = &box->tables.inputs[channel - 1];
+        wellacorn_relay *relay = &box->tables.relays[channel - 1];
+        switch (action) {
+        case CLOSE:
+            changed = put_relay(relay, true);
+            break;
+        case OPEN:
+            changed = put_relay(relay, false);
+            break;
+        case TOGGLE:
+            changed = put_relay(relay, !relay->closed);
+            break;
+        case CLEAR_COUNT:
+            in->count = 0;
+            break;
+        case CLEAR_INPUT_USAGE:
+            in->usage = 0;
+            break;
+        case CLEAR_RELAY_USAGE:
+            relay->usage = 0;
+            break;
+        }
+    }
+    if (changed) {
+        mark_due(box);
+    }
+    return WELLACORN_SERVED;
+}
+
+static uint8_t read_devices(const peer_box *box, const uint8_t *content, size_t n, uint8_t **end)
+{
+    if (n < 3 || n != 3 + 8 * (size_t)get16(content + 1)) {
+        return WELLACORN_BAD_LENGTH;
+    }
+    uint8_t *p = put8(*end, DEVICES_READ);
+    p = put16(p, get16(content + 1));
+    for (const uint8_t *id = content + 3; id < content + n; id += 8) {
+        p = put_device(p, &box->tables, get64(id));
+    }
+    *end = p;
+    return WELLACORN_SERVED;
+}
+
+/* "With 1 and 2 together the written count stands." Says whether the entry was written. */
+static bool write_input(wellacorn_input *in, const uint8_t *block, size_t length)
+{
+    enum { RESET_COUNT = 1, WRITE_COUNT = 2, RESET_USAGE = 4, ALL = 7 };
+
+    if (length != 1 && length != 5) {
+        return false;
+    }
+    unsigned flags = block[0];
+    if (flags > ALL || ((flags & WRITE_COUNT) && length != 5)) {
+        return false;
+    }
+    if (flags & RESET_COUNT) {
+        in->count = 0;
+    }
+    if (flags & WRITE_COUNT) {
+        in->count = get32(block + 1);
+    }
+    if (flags & RESET_USAGE) {
+        in->usage = 0;
+    }
+    return true;
+}
+
+static bool write_relay(wellacorn_relay *relay, const uint8_t *block, size_t length, bool *changed)
+{
+    enum { STATE = 1, RESET_USAGE = 2, ALL = 3 };
+
+    if (length != 1 && length != 2) {
+        return false;
+    }
+    unsigned flags = block[0];
+    if (flags > ALL) {
+        return false;
+    }
+    if (flags & STATE) {
+        if (length != 2 || block[1] > 1) {
+            return false;
+        }
+        *changed |= put_relay(relay, block[1]);
+    }
+    if (flags & RESET_USAGE) {
+        relay->usage = 0;
+    }
+    return true;
+}
+
+enum { ENTRY = 10 };    /* an entry before its block: ID and block length */
+
+/* "The whole message must fit exactly, else 10 and nothing is written." */
+static bool entries_fit(const uint8_t *content, size_t n)
+{
+    if (n < 3) {
+        return false;
+    }
+    size_t at = 3;
+    for (unsigned left = get16(content + 1); left > 0; left--) {
+        if (n - at < ENTRY) {
+            return false;
+        }
+        size_t length = get16(content + at + 8);
+        at += ENTRY;
+        if (n - at < length) {
+            return false;
+        }
+        at += length;
+    }
+    return at == n;
+}
+
+static uint8_t write_devices(peer_box *box, const uint8_t *content, size_t n, uint8_t **end)
+{
+    if (!entries_fit(content, n)) {
+        return WELLACORN_BAD_LENGTH;
+    }
+    /* "The entries are each a change of their own, so close and then open makes Monitor due": a change is never taken back. */
+    bool changed = false;
+    uint16_t written = 0;
+    for (size_t at = 3; at < n;) {
+        int device = device_of(get64(content + at));
+        size_t length = get16(content + at + 8);
+        const uint8_t *block = content + at + ENTRY;
+        if (device == UNKNOWN) {
+            /* this entry fails alone */
+        } else if (device < WELLACORN_CHANNELS) {
+            written += write_input(&box->tables.inputs[device], block, length);
+        } else {
+            written += write_relay(&box->tables.relays[device - WELLACORN_CHANNELS], block, length, &changed);
+        }
+        at += ENTRY + length;
+    }
+    if (changed) {
+        mark_due(box);
+    }
+    *end = put8(*end, DEVICES_WRITTEN);
+    *end = put16(*end, written);
+    return WELLACORN_SERVED;
+}
+
+static uint8_t enumerate_devices(const uint8_t *content, size_t n, uint8_t **end)
+{
+    enum { INTERNAL = 1, ALL = 3 };
+
+    if (n != 2) {
+        return WELLACORN_BAD_LENGTH;
+    }
+    unsigned flags = content[1];
+    if (flags < INTERNAL || flags > ALL) {
+        return WELLACORN_OUT_OF_RANGE;
+    }
+    uint16_t found = flags & INTERNAL ? DEVICES : 0;
+    uint8_t *p = put8(*end, DEVICES_ENUMERATED);
+    p = put8(p, content[1]);
+    p = put16(p, found);
+    for (unsigned device = 0; device < found; device++) {
+        p = put64(p, id_of(device));
+    }
+    *end = p;
+    return WELLACORN_SERVED;
+}
+
+/* A whole message: type, then rank, then its own rules. */
+static uint8_t serve(peer_box *box, wellacorn_line *line, const uint8_t *content, size_t n, uint8_t **end)
+{
+    unsigned type = n == 0 ? 0 : content[0];
+    unsigned needed = 1;
+
+    switch (type) {
+    case SET_CLOCK:
+        needed = 2;
+        break;
+    case REQUEST:
+    case COMMAND:
+    case READ_DEVICES:
+    case WRITE_DEVICES:
+    case ENUMERATE_DEVICES:
+        break;
+    default:
+        return WELLACORN_NOT_OFFERED;
+    }
+    if (line->rank < needed) {
+        return WELLACORN_LOW_RANK;
+    }
+    switch (type) {
+    case REQUEST:
+        return request(box, line, content, n, end);
+    case SET_CLOCK:
+        return set_clock(box, content, n);
+    case COMMAND:
+        return command(box, content, n);
+    case READ_DEVICES:
+        return read_devices(box, content, n, end);
+    case WRITE_DEVICES:
+        return write_devices(box, content, n, end);
+    default:
+        return enumerate_devices(content, n, end);
+    }
+}
+
+/* A message that has ended. Its content is not there if it is too long. */
+static uint8_t judge(peer_box *box, wellacorn_line *line, const uint8_t *content, size_t n, unsigned sum, uint8_t *reply, size_t *len)
+{
+    if (n > WELLACORN_CONTENT) {
+        return WELLACORN_TOO_LONG;
+    }
+    if (sum != UNCHECKED && sum != crc16(content, n)) {
+        return WELLACORN_BAD_CHECKSUM;
+    }
+    uint8_t *end = reply + HEADER;
+    uint8_t answer = serve(box, line, content, n, &end);
+    size_t written = (size_t)(end - reply) - HEADER;
+    if (written > 0) {
+        *len = seal(reply, written);
+    }
+    return answer;
+}
+
+/* ---- The calls */
+
+void peer_power_up(peer_box *box, const wellacorn_settings *settings)
+{
+    memset(box, 0, sizeof *box);
+    for (int k = 0; k < WELLACORN_CHANNELS; k++) {
+        wellacorn_input *in = &box->tables.inputs[k];
+        in->setpoint_one = settings->inputs[k].setpoint_one;
+        in->setpoint_two = settings->inputs[k].setpoint_two;
+        in->usage_setpoint = settings->inputs[k].usage_setpoint;
+        in->alarm = settings->inputs[k].alarm;
+        box->tables.relays[k].usage_setpoint = settings->relays[k];
+    }
+}
+
+uint8_t peer_level(peer_box *box, uint8_t k, uint8_t v)
+{
+    if (k < 1 || k > WELLACORN_CHANNELS || v > 1) {
+        return WELLACORN_OUT_OF_RANGE;
+    }
+    wellacorn_input *in = &box->tables.inputs[k - 1];
+    if (in->level != v) {
+        in->level = v;
+        if (v && in->count < UINT32_MAX) {
+            in->count++;
+        }
+        mark_due(box);
+    }
+    return WELLACORN_SERVED;
+}
+
+uint8_t peer_pass(peer_box *box, uint32_t d)
+{
+    wellacorn_tables *tables = &box->tables;
+    tables->clock = grown(tables->clock, d);
+    for (int k = 0; k < WELLACORN_CHANNELS; k++) {
+        if (tables->inputs[k].level) {
+            tables->inputs[k].usage = grown(tables->inputs[k].usage, d);
+        }
+        if (tables->relays[k].closed) {
+            tables->relays[k].usage = grown(tables->relays[k].usage, d);
+        }
+    }
+    return WELLACORN_SERVED;
+}
+
+static const wellacorn_half nothing_read;
+
+uint8_t peer_connect(peer_box *box, uint8_t c, uint8_t rank)
+{
+    if (c >= WELLACORN_CONNECTIONS) {
+        return WELLACORN_NO_CONNECTION;
+    }
+    peer_connection *opened = &box->connections[c];
+    if (opened->line.is_open) {
+        return WELLACORN_ALREADY_OPEN;
+    }
+    if (rank > 2) {
+        return WELLACORN_BAD_RANK;
+    }
+    opened->line = (wellacorn_line){.is_open = true, .rank = rank, .monitor = true, .due = rank > 0};
+    opened->half = nothing_read;
+    return WELLACORN_SERVED;
+}
+
+static bool is_open(const peer_box *box, uint8_t c)
+{
+    return c < WELLACORN_CONNECTIONS && box->connections[c].line.is_open;
+}
+
+uint8_t peer_close(peer_box *box, uint8_t c)
+{
+    if (!is_open(box, c)) {
+        return WELLACORN_NO_CONNECTION;
+    }
+    box->connections[c].line = (wellacorn_line){.is_open = false};
+    box->connections[c].half = nothing_read;
+    return WELLACORN_SERVED;
+}
+
+uint8_t peer_collect(peer_box *box, uint8_t c, uint8_t *reply, size_t reply_len, size_t *taken, size_t *len)
+{
+    *taken = 0;
+    *len = 0;
+    if (!is_open(box, c)) {
+        return WELLACORN_NO_CONNECTION;
+    }
+    if (reply_len < WELLACORN_REPLY) {
+        return WELLACORN_SHORT_BUFFER;
+    }
+    wellacorn_line *line = &box->connections[c].line;
+    if (!line->due) {
+        return WELLACORN_WAITING;
+    }
+    line->due = false;
+    const uint8_t *end = put_monitor(reply + HEADER, &box->tables);
+    *len = seal(reply, (size_t)(end - reply) - HEADER);
+    return WELLACORN_SERVED;
+}
+
+static void read_header(wellacorn_half *half, uint8_t byte)
+{
+    switch (half->got++) {
+    case 0:
+        break;
+    case 1:
+        half->len = (uint16_t)(byte << 8);
+        break;
+    case 2:
+        half->len |= byte;
+        break;
+    case 3:
+        half->sum = (uint16_t)(byte << 8);
+        break;
+    default:
+        half->sum |= byte;
+        break;
+    }
+}
+
+uint8_t peer_bytes(peer_box *box, uint8_t c, const uint8_t *piece, size_t piece_len, uint8_t *reply, size_t reply_len, size_t *taken,
+                   size_t *len)
+{
+    *taken = 0;
+    *len = 0;
+    if (!is_open(box, c)) {
+        return WELLACORN_NO_CONNECTION;
+    }
+    if (reply_len < WELLACORN_REPLY) {
+        return WELLACORN_SHORT_BUFFER;
+    }
+    if (piece_len == 0) {
+        return WELLACORN_WAITING;
+    }
+    peer_connection *from = &box->connections[c];
+    wellacorn_half *half = &from->half;
+
+    if (half->got == 0) {
+        if (piece[0] != START) {
+            *taken = 1;
+            return piece[0] == ACK ? WELLACORN_KEEP_ALIVE : WELLACORN_STRAY;
+        }
+        /* A message that lies whole in the piece is served from there. */
+        if (piece_len >= HEADER && piece_len - HEADER >= get16(piece + 1)) {
+            size_t n = get16(piece + 1);
+            *taken = HEADER + n;
+            return judge(box, &from->line, piece + HEADER, n, get16(piece + 3), reply, len);
+        }
+    }
+
+    size_t at = 0;
+    while (half->got < HEADER) {
+        if (at == piece_len) {
+            *taken = at;
+            return WELLACORN_WAITING;
+        }
+        read_header(half, piece[at++]);
+    }
+    size_t missing = HEADER + half->len - half->got;
+    size_t here = piece_len - at < missing ? piece_len - at : missing;
+    if (half->len <= WELLACORN_CONTENT) {
+        memcpy(from->room + (half->got - HEADER), piece + at, here);
+    }
+    half->got += (uint32_t)here;
+    *taken = at + here;
+    if (here < missing) {
+        return WELLACORN_WAITING;
+    }
+    wellacorn_half ended = *half;
+    *half = nothing_read;
+    return judge(box, &from->line, from->room, ended.len, ended.sum, reply, len);
+}

@@ -1,0 +1,453 @@
+/* The replay tool: reads lines from standard input until the end and prints exactly one line for each. docs/REPLAY.md says which. */
+#define _POSIX_C_SOURCE 200809L
+
+#include "engine.h"
+
+#include <errno.h>
+#include <stdio.h>
+#include <stdlib.h>
+#include <string.h>
+#include <unistd.h>
+
+enum {
+    DIGITS = 200000,                            /* hexadecimal digits of a piece at most */
+    CAP = 65536,                                /* the longest reply buffer that can be asked for */
+    GUARD = WELLACORN_REPLY,                    /* bytes behind the reply buffer that are watched too: a whole reply's */
+    FILL = 0xA5,                                /* what the reply buffer holds before a call */
+    DECIMALS = 20,                              /* decimal digits of a number at most, leading zeros included */
+    WORDS = 41,                                 /* words of a line at most: `power` and 40 numbers */
+    LONGEST = 6 + 2 * (DECIMALS + 1) + DIGITS,  /* the longest line that is not `?`: `bytes`, two numbers, a piece */
+    IN = 1 << 18,
+    OUT = 1 << 18,
+    PRINTED = 2 * CAP + 1024                    /* more than the longest line that is printed */
+};
+
+static_assert(LONGEST < IN, "a line that is not `?` and its end fit the input buffer");
+static_assert(PRINTED < OUT, "a printed line fits the output buffer");
+
+/* ---- Output: collected, and written when the buffer is full or input has to be waited for */
+
+static char out[OUT];
+static size_t out_len;
+
+static void fail(const char *what)
+{
+    fprintf(stderr, "replay: %s: %s\n", what, strerror(errno));
+    exit(EXIT_FAILURE);
+}
+
+static void flush_out(void)
+{
+    for (size_t at = 0; at < out_len;) {
+        ssize_t n = write(STDOUT_FILENO, out + at, out_len - at);
+        if (n >= 0) {
+            at += (size_t)n;
+        } else if (errno != EINTR) {
+            fail("standard output");
+        }
+    }
+    out_len = 0;
+}
+
+static void print_char(char ch)
+{
+    out[out_len++] = ch;
+}
+
+static void print_text(const char *text)
+{
+    size_t n = strlen(text);
+    memcpy(out + out_len, text, n);
+    out_len += n;
+}
+
+static void print_number(uint64_t x)
+{
+    char digits[DECIMALS];
+    size_t at = sizeof digits;
+    do {
+        digits[--at] = (char)('0' + x % 10);
+        x /= 10;
+    } while (x > 0);
+    memcpy(out + out_len, digits + at, sizeof digits - at);
+    out_len += sizeof digits - at;
+}
+
+/* Upper case, `-` for none. */
+static void print_hex(const uint8_t *p, size_t n)
+{
+    static const char digits[] = "0123456789ABCDEF";
+    if (n == 0) {
+        print_char('-');
+    }
+    for (size_t i = 0; i < n; i++) {
+        print_char(digits[p[i] >> 4]);
+        print_char(digits[p[i] & 0xF]);
+    }
+}
+
+/* ---- Words of a line. They are not ended by a zero: a line may hold any byte. */
+
+typedef struct {
+    const char *text;
+    size_t len;
+} word;
+
+/* Words are separated by exactly one space: of two spaces the word between is empty, and no line has an empty word.
+ * Gives their number, or 0 if there are more than a line can have. */
+static size_t split(word line, word words[WORDS])
+{
+    size_t n = 0;
+    for (;;) {
+        if (n == WORDS) {
+            return 0;
+        }
+        const char *space = memchr(line.text, ' ', line.len);
+        words[n].text = line.text;
+        words[n].len = space == NULL ? line.len : (size_t)(space - line.text);
+        n++;
+        if (space == NULL) {
+            return n;
+        }
+        line.text += words[n - 1].len + 1;
+        line.len -= words[n - 1].len + 1;
+    }
+}
+
+static bool is(word w, const char *name)
+{
+    return w.len == strlen(name) && memcmp(w.text, name, w.len) == 0;
+}
+
+/* A decimal and unsigned number, 0 to top. */
+static bool number(word w, uint64_t top, uint64_t *value)
+{
+    if (w.len == 0 || w.len > DECIMALS) {
+        return false;
+    }
+    uint64_t x = 0;
+    for (size_t i = 0; i < w.len; i++) {
+        if (w.text[i] < '0' || w.text[i] > '9') {
+            return false;
+        }
+        unsigned digit = (unsigned)(w.text[i] - '0');
+        if (x > (UINT64_MAX - digit) / 10) {
+            return false;
+        }
+        x = 10 * x + digit;
+    }
+    *value = x;
+    return x <= top;
+}
+
+static bool byte(word w, uint8_t *value)
+{
+    uint64_t x = 0;
+    bool good = number(w, UINT8_MAX, &x);
+    *value = (uint8_t)x;
+    return good;
+}
+
+static bool four_bytes(word w, uint32_t *value)
+{
+    uint64_t x = 0;
+    bool good = number(w, UINT32_MAX, &x);
+    *value = (uint32_t)x;
+    return good;
+}
+
+static bool one_bit(word w, bool *value)
+{
+    uint64_t x = 0;
+    bool good = number(w, 1, &x);
+    *value = x != 0;
+    return good;
+}
+
+static bool capacity(word w, size_t *value)
+{
+    uint64_t x = 0;
+    bool good = number(w, CAP, &x);
+    *value = (size_t)x;
+    return good;
+}
+
+/* The value of an upper-case hexadecimal digit, 16 for any other character. */
+static unsigned hex_digit(char ch)
+{
+    if (ch >= '0' && ch <= '9') {
+        return (unsigned)(ch - '0');
+    }
+    if (ch >= 'A' && ch <= 'F') {
+        return (unsigned)(ch - 'A' + 10);
+    }
+    return 16;
+}
+
+static uint8_t piece[DIGITS / 2];
+static size_t piece_len;
+
+static bool read_piece(word w)
+{
+    piece_len = 0;
+    if (is(w, "-")) {
+        return true;
+    }
+    if (w.len == 0 || w.len > DIGITS || w.len % 2 != 0) {
+        return false;
+    }
+    for (size_t i = 0; i < w.len; i += 2) {
+        unsigned upper = hex_digit(w.text[i]);
+        unsigned lower = hex_digit(w.text[i + 1]);
+        if (upper > 15 || lower > 15) {
+            return false;
+        }
+        piece[piece_len++] = (uint8_t)(upper << 4 | lower);
+    }
+    return true;
+}
+
+/* ---- The box, and the lines it obeys. Each says whether it was a good line; a bad one does and prints nothing. */
+
+static engine box;
+static uint8_t rooms[WELLACORN_ROOMS];
+static uint8_t reply[CAP + GUARD];
+
+static const wellacorn_settings all_zero;
+
+static bool power(const word *words, size_t n)
+{
+    wellacorn_settings s = all_zero;
+    if (n != 0 && n != 5 * WELLACORN_CHANNELS) {
+        return false;
+    }
+    if (n != 0) {
+        for (int k = 0; k < WELLACORN_CHANNELS; k++, words += 4) {
+            wellacorn_input_settings *in = &s.inputs[k];
+            if (!four_bytes(words[0], &in->setpoint_one) || !four_bytes(words[1], &in->setpoint_two) ||
+                !number(words[2], UINT64_MAX, &in->usage_setpoint) || !one_bit(words[3], &in->alarm)) {
+                return false;
+            }
+        }
+        for (int k = 0; k < WELLACORN_CHANNELS; k++, words++) {
+            if (!number(words[0], UINT64_MAX, &s.relays[k])) {
+                return false;
+            }
+        }
+    }
+    ENGINE_POWER_UP(box, s);
+    print_char('1');
+    return true;
+}
+
+static bool connect_line(const word *words, size_t n)
+{
+    uint8_t c, rank;
+    if (n != 2 || !byte(words[0], &c) || !byte(words[1], &rank)) {
+        return false;
+    }
+    ENGINE_CONNECT(box, c, rank);
+    print_number(box.answer);
+    return true;
+}
+
+static bool close_line(const word *words, size_t n)
+{
+    uint8_t c;
+    if (n != 1 || !byte(words[0], &c)) {
+        return false;
+    }
+    ENGINE_CLOSE(box, c);
+    print_number(box.answer);
+    return true;
+}
+
+static bool level(const word *words, size_t n)
+{
+    uint8_t k, v;
+    if (n != 2 || !byte(words[0], &k) || !byte(words[1], &v)) {
+        return false;
+    }
+    ENGINE_LEVEL(box, k, v);
+    print_number(box.answer);
+    return true;
+}
+
+static bool pass(const word *words, size_t n)
+{
+    uint32_t d;
+    if (n != 1 || !four_bytes(words[0], &d)) {
+        return false;
+    }
+    ENGINE_PASS(box, d);
+    print_number(box.answer);
+    return true;
+}
+
+/* The reply buffer of `cap` bytes before a call, and as many behind it as are watched. */
+static void fill_reply(size_t cap)
+{
+    memset(reply, FILL, cap + GUARD);
+}
+
+/* Reply length, reply, and whether a byte outside the reply has changed. A length beyond the buffer is no reply's, so it is spoilt too. */
+static void print_reply(size_t cap)
+{
+    size_t shown = box.len <= cap ? box.len : cap;
+    uint8_t changed = 0;        /* bits, not a bool: this is the tool's longest loop, and compilers make wide steps of it so */
+    for (size_t i = shown; i < cap + GUARD; i++) {
+        changed |= reply[i] ^ FILL;
+    }
+    print_char(' ');
+    print_number(box.len);
+    print_char(' ');
+    print_hex(reply, shown);
+    if (changed != 0 || box.len > cap) {
+        print_text(" spoilt");
+    }
+}
+
+static bool collect(const word *words, size_t n)
+{
+    uint8_t c;
+    size_t cap;
+    if (n != 2 || !byte(words[0], &c) || !capacity(words[1], &cap)) {
+        return false;
+    }
+    fill_reply(cap);
+    ENGINE_COLLECT(box, c, reply, cap);
+    print_number(box.answer);
+    print_reply(cap);
+    return true;
+}
+
+static bool bytes(const word *words, size_t n)
+{
+    uint8_t c;
+    size_t cap;
+    if (n != 3 || !byte(words[0], &c) || !capacity(words[1], &cap) || !read_piece(words[2])) {
+        return false;
+    }
+    fill_reply(cap);
+    ENGINE_BYTES(box, rooms, c, piece, piece_len, reply, cap);
+    print_number(box.answer);
+    print_char(' ');
+    print_number(box.taken);
+    print_reply(cap);
+    return true;
+}
+
+/* Numbers with a comma between and a space before. */
+static void print_numbers(const uint64_t *numbers, size_t n)
+{
+    for (size_t i = 0; i < n; i++) {
+        print_char(i == 0 ? ' ' : ',');
+        print_number(numbers[i]);
+    }
+}
+
+static bool state(const word *words, size_t n)
+{
+    (void)words;
+    if (n != 0) {
+        return false;
+    }
+    wellacorn_board b = engine_board(&box);
+    print_text("C ");
+    print_number(b.plain.tables.clock);
+    print_text(" I");
+    for (int k = 0; k < WELLACORN_CHANNELS; k++) {
+        const wellacorn_input *in = &b.plain.tables.inputs[k];
+        print_numbers((const uint64_t[]){in->level, in->count, in->usage}, 3);
+    }
+    print_text(" R");
+    for (int k = 0; k < WELLACORN_CHANNELS; k++) {
+        const wellacorn_relay *relay = &b.plain.tables.relays[k];
+        print_numbers((const uint64_t[]){relay->closed, relay->usage}, 2);
+    }
+    print_text(" N");
+    for (int c = 0; c < WELLACORN_CONNECTIONS; c++) {
+        const wellacorn_line *line = &b.plain.lines[c];
+        print_numbers((const uint64_t[]){line->is_open, line->rank, line->monitor, line->due, b.halves[c].got}, 5);
+    }
+    return true;
+}
+
+static bool obey(word line)
+{
+    static const struct {
+        const char *name;
+        bool (*obey)(const word *words, size_t n);
+    } lines[] = {
+        {"bytes", bytes}, {"collect", collect},  {"level", level}, {"pass", pass},
+        {"state", state}, {"open", connect_line}, {"close", close_line}, {"power", power},
+    };
+
+    word words[WORDS];
+    size_t n = split(line, words);
+    for (size_t i = 0; n > 0 && i < sizeof lines / sizeof lines[0]; i++) {
+        if (is(words[0], lines[i].name)) {
+            return lines[i].obey(words + 1, n - 1);
+        }
+    }
+    return false;
+}
+
+static void answer(word line)
+{
+    if (OUT - out_len < PRINTED) {
+        flush_out();
+    }
+    if (!obey(line)) {
+        print_char('?');
+    }
+    print_char('\n');
+}
+
+/* ---- Input. A line that does not fit the buffer is longer than any that is obeyed: its bytes are dropped, and it is answered once. */
+
+static char in[IN];
+
+static size_t read_more(size_t held)
+{
+    flush_out();    /* who waits for an answer before the next line gets it */
+    for (;;) {
+        ssize_t n = read(STDIN_FILENO, in + held, IN - held);
+        if (n >= 0) {
+            return (size_t)n;
+        }
+        if (errno != EINTR) {
+            fail("standard input");
+        }
+    }
+}
+
+int main(void)
+{
+    const word too_long = {"", 0};
+    size_t held = 0;            /* bytes in the buffer: the beginning of a line */
+    bool dropped = false;       /* an earlier part of this line was dropped */
+
+    ENGINE_POWER_UP(box, all_zero);
+    for (size_t n; (n = read_more(held)) > 0;) {
+        size_t from = 0, scan = held;
+        held += n;
+        for (char *end; (end = memchr(in + scan, '\n', held - scan)) != NULL;) {
+            size_t to = (size_t)(end - in);
+            answer(dropped ? too_long : (word){in + from, to - from});
+            dropped = false;
+            from = scan = to + 1;
+        }
+        held -= from;
+        memmove(in, in + from, held);
+        if (held == IN) {
+            dropped = true;
+            held = 0;
+        }
+    }
+    if (held > 0 || dropped) {
+        answer(dropped ? too_long : (word){in, held});
+    }
+    flush_out();
+    return EXIT_SUCCESS;
+}

@@ -1,0 +1,238 @@
+/* The box's side of the JNIOR binary protocol, as a C or C++ host calls it.
+ *
+ * The functions stand in the static archive libcapi.a, for x86-64 Linux. Each takes every input, ends, keeps no memory of its own and
+ * calls nothing back: all that the box holds is in the board, by value, and in the rooms that the host lends.
+ *
+ *     uint8_t rooms[WELLACORN_ROOMS], reply[WELLACORN_REPLY];
+ *     wellacorn_done done = wellacorn_connect(wellacorn_power_up(settings), 0, 2);
+ *     done = wellacorn_bytes(done.board, rooms, 0, piece, piece_len, reply, sizeof reply);
+ *     // send done.len bytes of reply; offer the bytes from piece + done.taken on again, before any later ones
+ *
+ * What the host owes:
+ *   - One board is threaded through all calls: each call is given the board that the call before gave back.
+ *   - The rooms are the same 4,096 bytes in every call, unaltered between calls. They need not be cleared.
+ *   - Bytes that a call has not taken are the host's to offer again, before any later ones of that connection: the box does not hold them.
+ *   - No pointer is null, not even where the length beside it is 0. Rooms, piece and reply do not overlap.
+ *   - A bool is 0 or 1.
+ */
+#ifndef WELLACORN_H
+#define WELLACORN_H
+
+#include <assert.h>
+#include <stdbool.h>
+#include <stddef.h>
+#include <stdint.h>
+
+#ifdef __cplusplus
+extern "C" {
+#endif
+
+/* ---- Numbers */
+
+enum {
+    WELLACORN_CHANNELS = 8,         /* inputs 1 to 8 and relays 1 to 8; channel k stands at place k - 1 */
+    WELLACORN_CONNECTIONS = 4,      /* connections 0 to 3 */
+    WELLACORN_CONTENT = 1024,       /* the longest content that is judged: a longer message is swallowed */
+    WELLACORN_ROOMS = 4096,         /* the rooms: 1,024 content bytes for each connection */
+    WELLACORN_REPLY = 4096,         /* the reply buffer must hold so many bytes */
+    WELLACORN_LONGEST_REPLY = 3437  /* the longest reply, its header included */
+};
+
+/* The answer numbers. They are judged in the order 3, 12, 13, 4, then 5 or 6, 7, 8, 9, 10, 11, except that in the message types 5 and 10
+ * the request or action is judged (11) as soon as the content holds it, before the length (10). Numbers 3 to 13 write no reply.
+ * An answer of 3, 4, 12 or 13 takes no bytes and changes nothing; one of 6 to 11 to a message takes the bytes through its end and clears
+ * the half-read message, and changes nothing else. */
+enum {
+    WELLACORN_WAITING = 0,          /* the piece is used up and nothing ended, or nothing is due */
+    WELLACORN_SERVED = 1,           /* served; the reply's length may be 0 */
+    WELLACORN_KEEP_ALIVE = 2,       /* a keep-alive byte: 1 taken, nothing changed */
+    WELLACORN_NO_CONNECTION = 3,    /* connection not 0 to 3, or not open (an opening is judged on the number alone) */
+    WELLACORN_SHORT_BUFFER = 4,     /* reply buffer under 4,096 */
+    WELLACORN_STRAY = 5,            /* a stray byte: 1 taken, nothing changed */
+    WELLACORN_TOO_LONG = 6,         /* N above 1,024 */
+    WELLACORN_BAD_CHECKSUM = 7,     /* the checksum differs and is not 0xFFFF */
+    WELLACORN_NOT_OFFERED = 8,      /* N is 0, or the type is not offered */
+    WELLACORN_LOW_RANK = 9,         /* rank too low */
+    WELLACORN_BAD_LENGTH = 10,      /* the content does not have the layout's length */
+    WELLACORN_OUT_OF_RANGE = 11,    /* action, request, channel, input, level or flags out of range */
+    WELLACORN_ALREADY_OPEN = 12,    /* opening one that is open */
+    WELLACORN_BAD_RANK = 13         /* rank above 2 */
+};
+
+/* ---- What the box holds. Usages are in ms. A setpoint of 0 means no alarm. */
+
+typedef struct {
+    bool level;                 /* on or off */
+    bool alarm;                 /* the alarm switch: Alarm State is 1 when it is set and the input is on */
+    uint32_t count;             /* rises, off to on; it stays at 4294967295 once there */
+    uint32_t setpoint_one;      /* count alarm 1 is 1 when the count exceeds it */
+    uint32_t setpoint_two;      /* count alarm 2, the same */
+    uint64_t usage;             /* how long the input has been on; it stops at its largest number */
+    uint64_t usage_setpoint;    /* the usage alarm is 1 when usage is at or above it */
+} wellacorn_input;
+
+typedef struct {
+    bool closed;                /* closed or open */
+    uint64_t usage;             /* how long the relay has been closed; it stops at its largest number */
+    uint64_t usage_setpoint;    /* the usage alarm is 1 when usage is at or above it */
+} wellacorn_relay;
+
+typedef struct {
+    wellacorn_input inputs[WELLACORN_CHANNELS];
+    wellacorn_relay relays[WELLACORN_CHANNELS];
+    uint64_t clock;             /* ms since 1 January 1970 GMT; it stops at its largest number */
+} wellacorn_tables;
+
+/* A connection, without its half-read message. All zero when shut. */
+typedef struct {
+    bool is_open;               /* open or shut */
+    uint8_t rank;               /* 0 not logged in, 1 user, 2 administrator */
+    bool monitor;               /* Monitor on or off */
+    bool due;                   /* Monitor due or not */
+} wellacorn_line;
+
+typedef struct {
+    wellacorn_tables tables;
+    wellacorn_line lines[WELLACORN_CONNECTIONS];
+} wellacorn_plain;
+
+/* How far a message has been read. All zero at a message start and when the connection is shut. */
+typedef struct {
+    uint32_t got;               /* bytes of it taken: 0 to 5 + N - 1 */
+    uint16_t len;               /* its length N, as far as it has come in: the upper byte first, the rest 0 */
+    uint16_t sum;               /* its checksum, likewise */
+} wellacorn_half;
+
+/* All that the box holds by value. Of a half-read message the content bytes so far stand in the rooms. */
+typedef struct {
+    wellacorn_plain plain;
+    wellacorn_half halves[WELLACORN_CONNECTIONS];
+} wellacorn_board;
+
+/* ---- What the host sets at power-up */
+
+typedef struct {
+    uint32_t setpoint_one;      /* of count alarm 1 */
+    uint32_t setpoint_two;      /* of count alarm 2 */
+    uint64_t usage_setpoint;    /* of the usage alarm */
+    bool alarm;                 /* the alarm switch */
+} wellacorn_input_settings;
+
+typedef struct {
+    wellacorn_input_settings inputs[WELLACORN_CHANNELS];
+    uint64_t relays[WELLACORN_CHANNELS];    /* the usage setpoint of each relay */
+} wellacorn_settings;
+
+/* ---- What a call came to */
+
+typedef struct {
+    wellacorn_board board;      /* the box after the call */
+    uint8_t answer;             /* the answer number */
+    size_t taken;               /* bytes taken of the piece; an event and a collection take none */
+    size_t len;                 /* the reply's length, its five header bytes included; 0 for no reply */
+} wellacorn_done;
+
+/* ---- The calls */
+
+/* The box at power-up: all numbers 0, all relays open, all connections shut, setpoints and alarm switches as the host sets them. */
+wellacorn_board wellacorn_power_up(wellacorn_settings s);
+
+/* Level of input k (1 to 8): v is 0 off, 1 on. Off to on adds one to the count. The same level again changes nothing. A real change makes
+ * Monitor due on each open connection of rank 1 or 2 that has it on. Answers 1, or 11 for a bad input or level. */
+wellacorn_done wellacorn_level(wellacorn_board b, uint8_t k, uint8_t v);
+
+/* d ms have passed: the clock, the usage of each input that is on and of each closed relay grow by d. Always answers 1. */
+wellacorn_done wellacorn_pass(wellacorn_board b, uint32_t d);
+
+/* Opens connection c at a rank: fresh, Monitor on, due if rank is 1 or 2. Answers 1, or 3, 12 or 13. */
+wellacorn_done wellacorn_connect(wellacorn_board b, uint8_t c, uint8_t rank);
+
+/* Closes connection c: its half-read message is dropped, and everything of it is zero. Answers 1, or 3. */
+wellacorn_done wellacorn_close(wellacorn_board b, uint8_t c);
+
+/* Bytes of connection c. They are taken one by one until a message ends or the piece does: `taken` is through the byte that ended it, or
+ * the whole piece. A message that ends is served or refused, and what follows it in the piece is to be offered again. A reply is one whole
+ * frame of `len` bytes at the start of the reply buffer; the bytes after it stay, and without a reply all stay.
+ *
+ *   rooms      1,024 content bytes for each connection, at 1,024 x c. A call writes to those of its own connection alone.
+ *   piece      piece_len bytes, read only. Not null, not even for an empty piece, which answers 0 (if neither 3 nor 4 applies).
+ *   reply      reply_len bytes, at least 4,096 or the answer is 4. Not null, not even for a length of 0.
+ *
+ * Answers 0 to 11. */
+wellacorn_done wellacorn_bytes(wellacorn_board b, uint8_t rooms[WELLACORN_ROOMS], uint8_t c, const uint8_t *piece, size_t piece_len,
+                               uint8_t *reply, size_t reply_len);
+
+/* Collects on connection c: if Monitor is due, writes one Monitor message, with the state now, and clears the mark: 1. If not: 0. Several
+ * changes before one collection give one message. The reply buffer is as in wellacorn_bytes. Answers 0, 1, 3 or 4. */
+wellacorn_done wellacorn_collect(wellacorn_board b, uint8_t c, uint8_t *reply, size_t reply_len);
+
+/* ---- The layout that the archive has, held to what this compiler makes of the structs. host/layout.c holds the archive to it. */
+
+#define WELLACORN_SIZE(type, size) static_assert(sizeof(type) == (size), #type " is not of " #size " bytes")
+#define WELLACORN_PLACE(type, field, place) static_assert(offsetof(type, field) == (place), #type "." #field " is not at " #place)
+
+static_assert(sizeof(bool) == 1, "a bool is one byte");
+static_assert(sizeof(size_t) == 8, "a size_t is eight bytes");
+
+WELLACORN_SIZE(wellacorn_input, 32);
+WELLACORN_PLACE(wellacorn_input, level, 0);
+WELLACORN_PLACE(wellacorn_input, alarm, 1);
+WELLACORN_PLACE(wellacorn_input, count, 4);
+WELLACORN_PLACE(wellacorn_input, setpoint_one, 8);
+WELLACORN_PLACE(wellacorn_input, setpoint_two, 12);
+WELLACORN_PLACE(wellacorn_input, usage, 16);
+WELLACORN_PLACE(wellacorn_input, usage_setpoint, 24);
+
+WELLACORN_SIZE(wellacorn_relay, 24);
+WELLACORN_PLACE(wellacorn_relay, closed, 0);
+WELLACORN_PLACE(wellacorn_relay, usage, 8);
+WELLACORN_PLACE(wellacorn_relay, usage_setpoint, 16);
+
+WELLACORN_SIZE(wellacorn_tables, 456);
+WELLACORN_PLACE(wellacorn_tables, inputs, 0);
+WELLACORN_PLACE(wellacorn_tables, relays, 256);
+WELLACORN_PLACE(wellacorn_tables, clock, 448);
+
+WELLACORN_SIZE(wellacorn_line, 4);
+WELLACORN_PLACE(wellacorn_line, is_open, 0);
+WELLACORN_PLACE(wellacorn_line, rank, 1);
+WELLACORN_PLACE(wellacorn_line, monitor, 2);
+WELLACORN_PLACE(wellacorn_line, due, 3);
+
+WELLACORN_SIZE(wellacorn_plain, 472);
+WELLACORN_PLACE(wellacorn_plain, tables, 0);
+WELLACORN_PLACE(wellacorn_plain, lines, 456);
+
+WELLACORN_SIZE(wellacorn_half, 8);
+WELLACORN_PLACE(wellacorn_half, got, 0);
+WELLACORN_PLACE(wellacorn_half, len, 4);
+WELLACORN_PLACE(wellacorn_half, sum, 6);
+
+WELLACORN_SIZE(wellacorn_board, 504);
+WELLACORN_PLACE(wellacorn_board, plain, 0);
+WELLACORN_PLACE(wellacorn_board, halves, 472);
+
+WELLACORN_SIZE(wellacorn_input_settings, 24);
+WELLACORN_PLACE(wellacorn_input_settings, setpoint_one, 0);
+WELLACORN_PLACE(wellacorn_input_settings, setpoint_two, 4);
+WELLACORN_PLACE(wellacorn_input_settings, usage_setpoint, 8);
+WELLACORN_PLACE(wellacorn_input_settings, alarm, 16);
+
+WELLACORN_SIZE(wellacorn_settings, 256);
+WELLACORN_PLACE(wellacorn_settings, inputs, 0);
+WELLACORN_PLACE(wellacorn_settings, relays, 192);
+
+WELLACORN_SIZE(wellacorn_done, 528);
+WELLACORN_PLACE(wellacorn_done, board, 0);
+WELLACORN_PLACE(wellacorn_done, answer, 504);
+WELLACORN_PLACE(wellacorn_done, taken, 512);
+WELLACORN_PLACE(wellacorn_done, len, 520);
+
+#undef WELLACORN_SIZE
+#undef WELLACORN_PLACE
+
+#ifdef __cplusplus
+}
+#endif
+
+#endif

@@ -1,0 +1,35 @@
+/* What the benchmark has a box do. workloads.c is compiled for the library and for the peer, and gives one `workload_side` for each. */
+#ifndef WORKLOADS_H
+#define WORKLOADS_H
+
+#include "wellacorn.h"
+
+/* Sums over all calls, so that no answer goes unread and the two sides can be compared. */
+typedef struct {
+    uint64_t answers;
+    uint64_t taken;
+    uint64_t len;
+} workload_tally;
+
+/* Does it `times` times over, on connection 0. */
+typedef workload_tally workload(const uint8_t *bytes, size_t n, size_t step, size_t times);
+
+enum {
+    PIECES,     /* offers the n bytes in pieces of `step`; each is taken whole */
+    DRAIN,      /* offers the n bytes, then again what is left of them, until all are taken */
+    PASS,       /* n times: 1 ms passes */
+    COLLECT,    /* n times: a level changes, 1 ms passes, Monitor is collected */
+    WORKLOADS
+};
+
+typedef struct {
+    void (*fresh)(void);                /* powers up and opens connection 0 at rank 2, half of the inputs on and of the relays closed */
+    workload *does[WORKLOADS];
+    wellacorn_board (*board)(void);     /* all that the box holds */
+    const uint8_t *reply;               /* its reply buffer, WELLACORN_REPLY bytes */
+} workload_side;
+
+extern const workload_side library_side;
+extern const workload_side peer_side;
+
+#endif

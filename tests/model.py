@@ -1,0 +1,679 @@
+#!/usr/bin/env python3
+"""The box of 01-scope.md as a plain machine over joined bytes.
+
+This is the judge a proved implementation is held to, so it is written for a reader: the rules in
+01's order and words, one short function each.  Sentences of 01 stand in quotes.  It shares nothing
+with the implementation.
+
+Per connection the bytes taken since its opening are joined.  A whole message is cut off the front
+and served singly, so that at any time only the unfinished message is left of the joined bytes.
+
+    python3 tests/model.py < trace      reads replay lines, prints what REPLAY.md says the tool prints
+"""
+
+import re
+import sys
+
+TOP32 = 4294967295                      # largest count, largest d
+TOP64 = 18446744073709551615            # largest clock, largest usage
+
+VERSION = b"jr310 3.10.0001"
+
+# "Answer numbers", 01's table.
+NOTHING_ENDED = 0                       # piece used up, nothing ended; or nothing due
+SERVED = 1                              # served; reply length may be 0
+KEEP_ALIVE = 2                          # keep-alive byte
+NO_CONNECTION = 3                       # connection not 0 to 3, or not open
+SHORT_BUFFER = 4                        # reply buffer under 4,096
+STRAY = 5                               # stray byte
+TOO_LONG = 6                            # N above 1,024
+BAD_CHECKSUM = 7                        # checksum differs and is not 0xFFFF
+NOT_OFFERED = 8                         # N is 0, or type not offered
+LOW_RANK = 9                            # rank too low
+BAD_LENGTH = 10                         # content does not have the layout's length
+OUT_OF_RANGE = 11                       # action, request, channel, input, level or flags out of range
+ALREADY_OPEN = 12                       # opening one that is open
+BAD_RANK = 13                           # rank above 2
+
+
+class Refused(Exception):
+    """A message refused with a number from 8 to 11.  Raised before anything is changed."""
+
+    def __init__(self, answer):
+        super().__init__(answer)
+        self.answer = answer
+
+
+# ---------------------------------------------------------------------------------------------
+# What the box holds
+# ---------------------------------------------------------------------------------------------
+
+class Input:
+    """'Level, count, two count setpoints, usage in ms, usage setpoint, alarm switch.'"""
+
+    __slots__ = ("level", "count", "usage", "setpoint1", "setpoint2", "usage_setpoint", "switch")
+
+    def __init__(self, setpoint1=0, setpoint2=0, usage_setpoint=0, switch=0):
+        self.level = self.count = self.usage = 0
+        self.setpoint1 = setpoint1
+        self.setpoint2 = setpoint2
+        self.usage_setpoint = usage_setpoint
+        self.switch = switch
+
+
+class Relay:
+    """'Open or closed, usage in ms, usage setpoint.'  A closed relay has the state 1."""
+
+    __slots__ = ("state", "usage", "usage_setpoint")
+
+    def __init__(self, usage_setpoint=0):
+        self.state = self.usage = 0
+        self.usage_setpoint = usage_setpoint
+
+
+class Connection:
+    """'Shut or open, rank, half-read message, Monitor on or off, Monitor due or not.'
+
+    `joined` holds the bytes taken since the opening, less the whole messages cut off their front.
+    """
+
+    __slots__ = ("open", "rank", "monitor", "due", "joined")
+
+    def __init__(self, open=0, rank=0, monitor=0, due=0):
+        self.open = open
+        self.rank = rank
+        self.monitor = monitor
+        self.due = due
+        self.joined = bytearray()
+
+
+INPUT_IDS = tuple(0x01FF + 0x100 * k for k in range(8))         # din1 to din8
+RELAY_IDS = tuple(0x0101FF + 0x100 * k for k in range(8))       # rout1 to rout8
+
+
+# ---------------------------------------------------------------------------------------------
+# Numbers, fields and checksum
+# ---------------------------------------------------------------------------------------------
+
+def number(data):
+    """'All numbers big-endian and unsigned.'"""
+    return int.from_bytes(data, "big")
+
+
+def field(value, size):
+    return value.to_bytes(size, "big")
+
+
+def make_crc_table():
+    """The table of 001, 'CRC-16 Algorithm', generated as its code does."""
+    table = []
+    for n in range(256):
+        c, d = 0, n
+        for _ in range(8):
+            c = (c >> 1) ^ 0xA001 if (c ^ d) & 1 else c >> 1
+            d >>= 1
+        table.append(c)
+    return tuple(table)
+
+
+CRC_TABLE = make_crc_table()
+
+
+def crc16(data):
+    """'The initial CRC value should be 0.' (001)"""
+    table = CRC_TABLE
+    crc = 0
+    for byte in data:
+        crc = (crc >> 8) ^ table[(crc ^ byte) & 0xFF]
+    return crc
+
+
+class Fields:
+    """'Fields are taken off the front of one lent message content, never past its end, and nothing
+    may be left over.'"""
+
+    __slots__ = ("content", "position")
+
+    def __init__(self, content, position):
+        self.content = content
+        self.position = position
+
+    def left(self):
+        return len(self.content) - self.position
+
+    def block(self, size):
+        if size > self.left():
+            raise Refused(BAD_LENGTH)
+        start = self.position
+        self.position = start + size
+        return self.content[start:self.position]
+
+    def number(self, size):
+        return number(self.block(size))
+
+    def end(self):
+        if self.left():
+            raise Refused(BAD_LENGTH)
+
+
+# ---------------------------------------------------------------------------------------------
+# The box
+# ---------------------------------------------------------------------------------------------
+
+class Box:
+    LONGEST = 1024                      # longest content that is judged
+    BUFFER = 4096                       # least reply buffer
+
+    # Message types offered, each with the method that serves it.
+    OFFERED = {
+        5: "request",
+        7: "set_clock",
+        10: "command",
+        21: "read_devices",
+        23: "write_devices",
+        26: "enumerate_devices",
+    }
+
+    Fields = Fields
+
+    def __init__(self):
+        self.power()
+
+    def power(self, settings=(0,) * 40):
+        """'At power-up all numbers are 0, all relays open, all connections shut.  Setpoints and
+        alarm switches are set by the host at power-up.'
+        """
+        self.inputs = [Input(*settings[4 * k:4 * k + 4]) for k in range(8)]
+        self.relays = [Relay(settings[32 + k]) for k in range(8)]
+        self.clock = 0
+        self.connections = [Connection() for _ in range(4)]
+        self.devices = dict(zip(INPUT_IDS + RELAY_IDS, self.inputs + self.relays))
+
+    # -- alarms --------------------------------------------------------------------------------
+
+    def alarm_state(self, inp):
+        """'Alarm State is 1 when the switch is set and the input is on.'"""
+        return 1 if inp.switch and inp.level else 0
+
+    def count_alarm(self, count, setpoint):
+        """'A setpoint of 0 means no alarm.'  'A count alarm is 1 when the count exceeds its
+        setpoint, in the Monitor message and the read block alike.'
+        """
+        return 1 if setpoint and count > setpoint else 0
+
+    def usage_alarm(self, usage, setpoint):
+        """'A usage alarm is 1 when usage is at or above its setpoint.'"""
+        return 1 if setpoint and usage >= setpoint else 0
+
+    # -- events besides bytes --------------------------------------------------------------------
+
+    def level(self, k, v):
+        """'Off to on adds one to the count, which stays at 4294967295 once there.  The same level
+        again changes nothing.'
+        """
+        if not 1 <= k <= 8 or v > 1:
+            return OUT_OF_RANGE
+        inp = self.inputs[k - 1]
+        if inp.level != v:
+            inp.level = v
+            if v:
+                inp.count = self.one_more(inp.count)
+            self.changed()
+        return SERVED
+
+    def one_more(self, count):
+        return min(count + 1, TOP32)
+
+    def pass_(self, d):
+        """'The clock, the usage of each input that is on and of each closed relay grow by d, each
+        stopping at its largest 64-bit number.'
+        """
+        self.clock = self.grown(self.clock, d)
+        for inp in self.inputs:
+            if inp.level:
+                inp.usage = self.grown(inp.usage, d)
+        for relay in self.relays:
+            if relay.state:
+                relay.usage = self.grown(relay.usage, d)
+        return SERVED
+
+    def grown(self, ms, d):
+        return min(ms + d, TOP64)
+
+    def open(self, c, rank):
+        """'Open a connection at a rank: fresh, Monitor on, due if rank is 1 or 2.'  Checked in the
+        order 3, 12, 13; 'an opening is judged on the number alone'.
+        """
+        if c > 3:
+            return NO_CONNECTION
+        if self.connections[c].open:
+            return ALREADY_OPEN
+        if rank > 2:
+            return BAD_RANK
+        self.connections[c] = Connection(1, rank, 1, 1 if rank >= 1 else 0)
+        return SERVED
+
+    def close(self, c):
+        """'Close a connection: its half-read message is dropped.'  Everything of it is 0 then."""
+        if not self.is_open(c):
+            return NO_CONNECTION
+        self.connections[c] = Connection()
+        return SERVED
+
+    def collect(self, c, cap):
+        """'Collect: if Monitor is due, write one Monitor message and clear the mark.'  Answers the
+        number and the reply.
+        """
+        refused = self.refuse_call(c, cap)
+        if refused:
+            return refused, b""
+        conn = self.connections[c]
+        if not conn.due:
+            return NOTHING_ENDED, b""
+        conn.due = 0
+        return SERVED, self.frame(self.monitor_content())
+
+    def changed(self):
+        """'When the level of an input or the state of a relay really changes, Monitor becomes due on
+        each open connection of rank 1 or 2 that has it on, the sender included.'
+        """
+        for conn in self.connections:
+            if conn.open and conn.rank >= 1 and conn.monitor:
+                conn.due = 1
+
+    # -- frame -----------------------------------------------------------------------------------
+
+    def is_open(self, c):
+        return c <= 3 and self.connections[c].open == 1
+
+    def refuse_call(self, c, cap):
+        """3, then 4: judged before any byte, for an empty piece too.  'Only byte and collect calls
+        have a reply buffer and can answer 4.'  0 when the call may go on.
+        """
+        if not self.is_open(c):
+            return NO_CONNECTION
+        if cap < self.BUFFER:
+            return SHORT_BUFFER
+        return 0
+
+    def bytes_(self, c, cap, piece):
+        """'The bytes of a piece are taken one by one until a message ends or the piece does.  Taken is
+        then fixed: through the byte that ended it, or the whole piece.'  Answers the number, the
+        bytes taken and the reply.
+        """
+        refused = self.refuse_call(c, cap)
+        if refused:
+            return refused, 0, b""
+        conn = self.connections[c]
+        before = len(conn.joined)
+        conn.joined += piece
+        end = self.message_end(conn.joined)
+        if end is None:
+            return NOTHING_ENDED, len(piece), b""
+        message = bytes(conn.joined[:end])
+        conn.joined = bytearray()       # what follows in the piece was not taken
+        answer, reply = self.judge(conn, message)
+        return answer, end - before, reply
+
+    def message_end(self, joined):
+        """The length of the first message of the joined bytes; None while it is unfinished.
+
+        'At a message start, 0x01 begins a frame, 0x06 is a keep-alive, any other byte is stray.
+        Inside a frame no byte has such a meaning.'  'Byte 0x01, length N in 2 bytes, checksum in 2,
+        then N content bytes.'
+        """
+        if not joined:
+            return None
+        if joined[0] != 0x01:
+            return 1
+        if len(joined) < 5:
+            return None
+        end = 5 + number(joined[1:3])
+        return end if len(joined) >= end else None
+
+    def judge(self, conn, message):
+        """One whole message: its number and its reply.  In the order 5 or 6, 7, then 8 to 11.
+
+        'N above 1,024: the N bytes are swallowed, none judged, and the answer comes at the last of
+        them.'
+        """
+        if message[0] == 0x06:
+            return KEEP_ALIVE, b""
+        if message[0] != 0x01:
+            return STRAY, b""
+        content = message[5:]
+        if len(content) > self.LONGEST:
+            return TOO_LONG, b""
+        if not self.checksum_passes(number(message[3:5]), content):
+            return BAD_CHECKSUM, b""
+        try:
+            answer = self.serve(conn, content)
+        except Refused as refusal:
+            return refusal.answer, b""
+        return SERVED, self.frame(answer) if answer else b""
+
+    def checksum_passes(self, sent, content):
+        """'The checksum covers the content only.'  'A sent checksum of 0xFFFF passes unchecked.'"""
+        return sent == 0xFFFF or sent == crc16(content)
+
+    def frame(self, content):
+        """'Replies always carry the true checksum.'"""
+        return b"\x01" + field(len(content), 2) + field(crc16(content), 2) + content
+
+    # -- messages offered --------------------------------------------------------------------------
+
+    def serve(self, conn, content):
+        """The content of the reply to a message, empty where it has none.  'N is 0, or type not
+        offered': 8.  'Rank 1 is needed for all, rank 2 for type 7': 9.
+        """
+        if not content or content[0] not in self.OFFERED:
+            raise Refused(NOT_OFFERED)
+        kind = content[0]
+        if conn.rank < self.rank_needed(kind):
+            raise Refused(LOW_RANK)
+        return getattr(self, self.OFFERED[kind])(conn, self.Fields(content, 1))
+
+    def rank_needed(self, kind):
+        return 2 if kind == 7 else 1
+
+    def request(self, conn, fields):
+        """5: 'request (2), optionally interval (4, read and not used): 3 or 7 bytes.'  'The request or
+        action is judged (11) as soon as the content holds it, before the length.'
+        """
+        request = fields.number(2)
+        if request not in (0, 1, 2, 4, 5):
+            raise Refused(OUT_OF_RANGE)
+        if fields.left():
+            fields.number(4)
+        fields.end()
+        if request == 0:
+            return self.clock_content()
+        if request == 1:                # "answers type 1 and leaves the due mark"
+            return self.monitor_content()
+        if request == 2:
+            return self.usage_content()
+        if request == 4:                # "turns Monitor off and clears due"
+            conn.monitor = conn.due = 0
+        else:                           # "5 turns it on", and leaves the due mark
+            conn.monitor = 1
+        return b""
+
+    def clock_content(self):
+        """6: clock, 9 bytes."""
+        return b"\x06" + field(self.clock, 8)
+
+    def monitor_content(self):
+        """1: 'version string (length byte, then `jr310 3.10.0001`), for each input level, Alarm State,
+        count (4), count alarms 1 and 2, for each relay its state, then clock: 97 bytes.'
+        """
+        content = bytearray(b"\x01" + field(len(VERSION), 1) + VERSION)
+        for inp in self.inputs:
+            content += self.input_status(inp)
+        for relay in self.relays:
+            content.append(relay.state)
+        content += field(self.clock, 8)
+        return bytes(content)
+
+    def input_status(self, inp):
+        """'Level, Alarm State, count, two count alarms': what Monitor message and read block share."""
+        return (field(inp.level, 1) + field(self.alarm_state(inp), 1) + field(inp.count, 4)
+                + field(self.count_alarm(inp.count, inp.setpoint1), 1)
+                + field(self.count_alarm(inp.count, inp.setpoint2), 1))
+
+    def usage_content(self):
+        """8: '16 usages, inputs then relays, then clock, 137 bytes.'"""
+        usages = [device.usage for device in self.inputs + self.relays]
+        return b"\x08" + b"".join(field(usage, 8) for usage in usages) + field(self.clock, 8)
+
+    def set_clock(self, conn, fields):
+        """7: '8 bytes after the type, any number.  No reply.'"""
+        clock = fields.number(8)
+        fields.end()
+        self.clock = clock
+        return b""
+
+    def command(self, conn, fields):
+        """10: '4 bytes in all.'  The action is judged first, then the length, then the channel.  'Actions
+        4, 6, 7: 11.  No reply.'
+        """
+        action = fields.number(1)
+        if action not in (1, 2, 3, 5, 8, 9, 10):
+            raise Refused(OUT_OF_RANGE)
+        if action == 10:
+            mask, state = fields.number(1), fields.number(1)
+            fields.end()
+            self.block_change(mask, state)
+        else:
+            channel = fields.number(2)
+            fields.end()
+            if not 1 <= channel <= 8:
+                raise Refused(OUT_OF_RANGE)
+            self.channel_action(action, self.inputs[channel - 1], self.relays[channel - 1])
+        return b""
+
+    def block_change(self, mask, state):
+        """'Mask byte, state byte, lowest bit channel 1; only masked relays take the state.'"""
+        really = False
+        for k, relay in enumerate(self.relays):
+            if mask >> k & 1:
+                really |= self.put_relay(relay, state >> k & 1)
+        if really:
+            self.changed()
+
+    def channel_action(self, action, inp, relay):
+        """'1 close, 2 open, 3 toggle, 5 clear input count, 8 clear input usage, 9 clear relay usage.'"""
+        really = False
+        if action == 1:
+            really = self.put_relay(relay, 1)
+        elif action == 2:
+            really = self.put_relay(relay, 0)
+        elif action == 3:
+            really = self.put_relay(relay, 1 - relay.state)
+        elif action == 5:
+            inp.count = 0
+        elif action == 8:
+            inp.usage = 0
+        elif action == 9:
+            relay.usage = 0
+        if really:
+            self.changed()
+
+    def put_relay(self, relay, state):
+        """Whether the state of the relay really changed."""
+        before = relay.state
+        relay.state = state
+        return before != state
+
+    def read_devices(self, conn, fields):
+        """21: 'count (2), that many IDs (8).  Answer 22: count, then for each ID in the order asked: ID,
+        block length (2), block.'
+        """
+        count = fields.number(2)
+        ids = [fields.number(8) for _ in range(count)]
+        fields.end()
+        content = bytearray(b"\x16" + field(count, 2))
+        for id in ids:
+            block = self.read_block(id)
+            content += field(id, 8) + field(len(block), 2) + block
+        return bytes(content)
+
+    def read_block(self, id):
+        """'An unknown ID has length 0; a repeated one is reported again.  Input block 17 bytes: level,
+        Alarm State, count, two count alarms, usage, usage alarm.  Relay block 10: state, usage, usage
+        alarm.'
+        """
+        device = self.devices.get(id)
+        if device is None:
+            return b""
+        status = self.input_status(device) if id in INPUT_IDS else field(device.state, 1)
+        return (status + field(device.usage, 8)
+                + field(self.usage_alarm(device.usage, device.usage_setpoint), 1))
+
+    def write_devices(self, conn, fields):
+        """23: 'count, then ID, length (2), block for each.  The whole message must fit exactly, else 10 and
+        nothing is written.  Entries are then done in order.'  'Answer: 24, then the number written (2).'
+        """
+        count = fields.number(2)
+        entries = [(fields.number(8), fields.block(fields.number(2))) for _ in range(count)]
+        fields.end()
+        written = 0
+        for id, block in entries:
+            if self.write_entry(id, block):
+                written += 1
+        return b"\x18" + field(written, 2)
+
+    def write_entry(self, id, block):
+        """'One fails alone, changing nothing, if the ID is unknown, the block's length is wrong, a flag is
+        unknown, or a written relay state is above 1.'  Whether it was written.
+        """
+        if id in INPUT_IDS:
+            return self.write_input(self.devices[id], block)
+        if id in RELAY_IDS:
+            return self.write_relay(self.devices[id], block)
+        return False
+
+    def write_input(self, inp, block):
+        """'Input flags 1 reset count, 2 write count, 4 reset usage; 1 or 5 bytes, 5 needed for flag 2; with
+        1 and 2 together the written count stands.'  Flags 0: written, changes nothing.
+        """
+        if len(block) not in (1, 5):
+            return False
+        flags = block[0]
+        if flags > 1 + 2 + 4:
+            return False
+        if flags & 2 and len(block) != 5:
+            return False
+        if flags & 1:
+            inp.count = 0
+        if flags & 2:
+            inp.count = number(block[1:5])
+        if flags & 4:
+            inp.usage = 0
+        return True
+
+    def write_relay(self, relay, block):
+        """'Relay flags 1 state, 2 reset usage; 1 or 2 bytes, 2 needed for flag 1.'  A state byte whose flag
+        is not set is read and not used.  'The entries of a WriteDevices message are each a change of
+        their own, so close and then open makes Monitor due.'
+        """
+        if len(block) not in (1, 2):
+            return False
+        flags = block[0]
+        if flags > 1 + 2:
+            return False
+        if flags & 1 and (len(block) != 2 or block[1] > 1):
+            return False
+        if flags & 2:
+            relay.usage = 0
+        if flags & 1 and self.put_relay(relay, block[1]):
+            self.changed()
+        return True
+
+    def enumerate_devices(self, conn, fields):
+        """26: 'flags (1 byte) 1, 2 or 3, else 11.  Answer 27: flags, count, IDs, inputs before relays,
+        rising.  Flag 2 alone finds none.'
+        """
+        flags = fields.number(1)
+        fields.end()
+        if flags not in (1, 2, 3):
+            raise Refused(OUT_OF_RANGE)
+        ids = INPUT_IDS + RELAY_IDS if flags & 1 else ()
+        return (b"\x1B" + field(flags, 1) + field(len(ids), 2)
+                + b"".join(field(id, 8) for id in ids))
+
+    # -- the lines of the replay tool -----------------------------------------------------------------
+
+    def state(self):
+        """`C` clock `I` eight times level,count,usage `R` eight times state,usage `N` four times
+        open,rank,monitor,due,got.
+        """
+        inputs = " ".join([f"{i.level},{i.count},{i.usage}" for i in self.inputs])
+        relays = " ".join([f"{r.state},{r.usage}" for r in self.relays])
+        connections = " ".join([f"{c.open},{c.rank},{c.monitor},{c.due},{self.got(c)}"
+                                for c in self.connections])
+        return f"C {self.clock} I {inputs} R {relays} N {connections}"
+
+    def got(self, conn):
+        """How many bytes of a half-read message have been taken."""
+        return len(conn.joined)
+
+    def line(self, text):
+        """One line in, without its end; the line that is printed out."""
+        try:
+            return self.obey(*text.split(" "))
+        except BadLine:
+            return "?"
+
+    def obey(self, name, *words):
+        if name == "bytes" and len(words) == 3:
+            c, cap = numbers(words[:2], (255, 65536))
+            answer, taken, reply = self.bytes_(c, cap, piece_of(words[2]))
+            return f"{answer} {taken} {len(reply)} {shown(reply)}"
+        if name == "collect":
+            answer, reply = self.collect(*numbers(words, (255, 65536)))
+            return f"{answer} {len(reply)} {shown(reply)}"
+        if name == "level":
+            return str(self.level(*numbers(words, (255, 255))))
+        if name == "pass":
+            return str(self.pass_(*numbers(words, (TOP32,))))
+        if name == "open":
+            return str(self.open(*numbers(words, (255, 255))))
+        if name == "close":
+            return str(self.close(*numbers(words, (255,))))
+        if name == "state" and not words:
+            return self.state()
+        if name == "power":
+            self.power(*([numbers(words, SETTING_TOPS)] if words else []))
+            return "1"
+        raise BadLine
+
+
+# ---------------------------------------------------------------------------------------------
+# Reading and printing a line
+# ---------------------------------------------------------------------------------------------
+
+class BadLine(Exception):
+    """'Any other line': `?`"""
+
+
+# "For inputs 1 to 8 setpoint 1, setpoint 2, usage setpoint, alarm switch (0 or 1), then the usage
+# setpoints of relays 1 to 8."
+SETTING_TOPS = (TOP32, TOP32, TOP64, 1) * 8 + (TOP64,) * 8
+
+DECIMAL = re.compile(r"[0-9]{1,20}")
+HEXADECIMAL = re.compile(r"[0-9A-F]+")
+
+
+def numbers(words, tops):
+    """Decimal and unsigned words, each at most its top."""
+    if len(words) != len(tops):
+        raise BadLine
+    values = []
+    for word, top in zip(words, tops):
+        if not DECIMAL.fullmatch(word) or int(word) > top:
+            raise BadLine
+        values.append(int(word))
+    return values
+
+
+def piece_of(word):
+    """'HEX is the piece, `-` for an empty one, up to 200,000 digits.'"""
+    if word == "-":
+        return b""
+    if len(word) > 200000 or len(word) % 2 or not HEXADECIMAL.fullmatch(word):
+        raise BadLine
+    return bytes.fromhex(word)
+
+
+def shown(reply):
+    return reply.hex().upper() if reply else "-"
+
+
+def main():
+    box = Box()
+    for line in sys.stdin.buffer:
+        print(box.line(line.rstrip(b"\n").decode("latin-1")))
+
+
+if __name__ == "__main__":
+    main()

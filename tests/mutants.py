@@ -1,0 +1,916 @@
+#!/usr/bin/env python3
+"""Seeded faults of the model, to show that the traces find them.
+
+    python3 tests/mutants.py [--seed S] [--events N]     says for each after how many events it was caught
+    python3 tests/mutants.py --as NAME < trace           plays one as a replay tool (to try hold.py on)
+    python3 tests/mutants.py --list
+
+Each fault is a small override of one method or number, named after what goes wrong.  Fails if one is not
+caught within the events given (default 20,000).
+"""
+
+import argparse
+import sys
+import time
+
+import model
+import traces
+from model import (Box, Fields, Refused, crc16, field, number, BAD_CHECKSUM, BAD_LENGTH, KEEP_ALIVE, NOT_OFFERED,
+                   NOTHING_ENDED, OUT_OF_RANGE, SERVED, TOO_LONG, TOP32, TOP64)
+
+MUTANTS = {}
+
+
+def named(name):
+    def enter(box):
+        MUTANTS[name] = box
+        return box
+    return enter
+
+
+def signed(data):
+    """Bytes widened with their sign, then put together."""
+    value = 0
+    for byte in data:
+        value = (value << 8) + (byte - 256 if byte > 127 else byte)
+    return value
+
+
+# -- numbers and fields --------------------------------------------------------------------------
+
+@named("written count's bytes widened with their sign")
+class _(Box):
+    def write_input(self, inp, block):
+        written = super().write_input(inp, block)
+        if written and block[0] & 2:
+            inp.count = signed(block[1:5]) & TOP32
+        return written
+
+
+@named("clock's bytes widened with their sign")
+class _(Box):
+    def set_clock(self, conn, fields):
+        super().set_clock(conn, fields)
+        self.clock = signed(fields.content[1:9]) & TOP64
+        return b""
+
+
+@named("channel's high byte not looked at")
+class _(Box):
+    def command(self, conn, fields):
+        if len(fields.content) == 4 and fields.content[1] != 10:
+            fields = Fields(fields.content[:2] + b"\x00" + fields.content[3:], 1)
+        return super().command(conn, fields)
+
+
+@named("ID compared in its low 4 bytes only")
+class _(Box):
+    def read_block(self, id):
+        return super().read_block(id & TOP32)
+
+
+@named("length of a frame kept in 16 bits")
+class _(Box):
+    def message_end(self, joined):
+        if joined and joined[0] == 1 and len(joined) >= 5:
+            end = max(5, 5 + number(joined[1:3]) & 0xFFFF)
+            return end if len(joined) >= end else None
+        return super().message_end(joined)
+
+
+@named("left-over bytes of a content not seen")
+class _(Box):
+    class Fields(Fields):
+        def end(self):
+            pass
+
+
+# -- alarms ----------------------------------------------------------------------------------------
+
+@named("count alarm at the setpoint")
+class _(Box):
+    def count_alarm(self, count, setpoint):
+        return 1 if setpoint and count >= setpoint else 0
+
+
+@named("usage alarm only above the setpoint")
+class _(Box):
+    def usage_alarm(self, usage, setpoint):
+        return 1 if setpoint and usage > setpoint else 0
+
+
+@named("count setpoint 0 alarms")
+class _(Box):
+    def count_alarm(self, count, setpoint):
+        return 1 if count > setpoint else 0
+
+
+@named("usage setpoint 0 alarms")
+class _(Box):
+    def usage_alarm(self, usage, setpoint):
+        return 1 if usage >= setpoint else 0
+
+
+@named("Alarm State without its switch")
+class _(Box):
+    def alarm_state(self, inp):
+        return inp.level
+
+
+@named("usage setpoint cut to 32 bits")
+class _(Box):
+    def usage_alarm(self, usage, setpoint):
+        return super().usage_alarm(usage, setpoint & TOP32)
+
+
+# -- events besides bytes --------------------------------------------------------------------------
+
+@named("count wraps")
+class _(Box):
+    def one_more(self, count):
+        return count + 1 & TOP32
+
+
+@named("count stops one early")
+class _(Box):
+    def one_more(self, count):
+        return min(count + 1, max(count, TOP32 - 1))
+
+
+@named("input on told on counts")
+class _(Box):
+    def level(self, k, v):
+        if 1 <= k <= 8 and v == 1 and self.inputs[k - 1].level:
+            self.inputs[k - 1].count = self.one_more(self.inputs[k - 1].count)
+        return super().level(k, v)
+
+
+@named("falling input counts")
+class _(Box):
+    def level(self, k, v):
+        if 1 <= k <= 8 and v == 0 and self.inputs[k - 1].level:
+            self.inputs[k - 1].count = self.one_more(self.inputs[k - 1].count)
+        return super().level(k, v)
+
+
+@named("level above 1 taken for on")
+class _(Box):
+    def level(self, k, v):
+        return super().level(k, min(v, 1))
+
+
+@named("clock wraps")
+class _(Box):
+    def grown(self, ms, d):
+        return ms + d & TOP64
+
+
+@named("usage grows while off or open")
+class _(Box):
+    def pass_(self, d):
+        before = [relay.usage for relay in self.relays]
+        super().pass_(d)
+        for relay, usage in zip(self.relays, before):
+            relay.usage = self.grown(usage, d)
+        return SERVED
+
+
+@named("clock setting changes usage")
+class _(Box):
+    def set_clock(self, conn, fields):
+        before = self.clock
+        super().set_clock(conn, fields)
+        for inp in self.inputs:
+            if inp.level:
+                inp.usage = inp.usage + self.clock - before & TOP64
+        return b""
+
+
+@named("clear usage of an input clears the relay's")
+class _(Box):
+    def channel_action(self, action, inp, relay):
+        super().channel_action(9 if action == 8 else action, inp, relay)
+
+
+@named("rank judged before the open mark")
+class _(Box):
+    def open(self, c, rank):
+        return model.BAD_RANK if c <= 3 and rank > 2 else super().open(c, rank)
+
+
+@named("rank 3 opened")
+class _(Box):
+    def open(self, c, rank):
+        return super().open(c, 2 if rank == 3 else rank)
+
+
+@named("Monitor due at rank 0")
+class _(Box):
+    def open(self, c, rank):
+        answer = super().open(c, rank)
+        if answer == SERVED:
+            self.connections[c].due = 1
+        return answer
+
+
+@named("half-read message kept over a closing")
+class _(Box):
+    def open(self, c, rank):
+        kept = self.kept.get(c, b"") if c <= 3 else b""
+        answer = super().open(c, rank)
+        if answer == SERVED:
+            self.connections[c].joined = bytearray(kept)
+        return answer
+
+    def close(self, c):
+        kept = bytes(self.connections[c].joined) if c <= 3 else b""
+        answer = super().close(c)
+        if answer == SERVED:
+            self.kept[c] = kept
+        return answer
+
+    def power(self, *settings):
+        super().power(*settings)
+        self.kept = {}
+
+
+@named("Monitor switch kept over a closing")
+class _(Box):
+    def open(self, c, rank):
+        off = c <= 3 and c in self.off
+        answer = super().open(c, rank)
+        if answer == SERVED and off:
+            self.connections[c].monitor = 0
+        return answer
+
+    def close(self, c):
+        if self.is_open(c):
+            (self.off.discard if self.connections[c].monitor else self.off.add)(c)
+        return super().close(c)
+
+    def power(self, *settings):
+        super().power(*settings)
+        self.off = set()
+
+
+@named("shut connection collects")
+class _(Box):
+    def collect(self, c, cap):
+        if c <= 3 and not self.connections[c].open and cap >= 4096:
+            return NOTHING_ENDED, b""
+        return super().collect(c, cap)
+
+
+@named("collection leaves the due mark")
+class _(Box):
+    def collect(self, c, cap):
+        answer = super().collect(c, cap)
+        if answer[0] == SERVED:
+            self.connections[c].due = 1
+        return answer
+
+
+@named("Monitor message made at the change, not at collection")
+class _(Box):
+    def changed(self):
+        super().changed()
+        self.made = self.monitor_content()
+
+    def collect(self, c, cap):
+        answer, reply = super().collect(c, cap)
+        return answer, self.frame(self.made) if reply and self.made else reply
+
+    def power(self, *settings):
+        super().power(*settings)
+        self.made = b""
+
+
+# -- due marks -------------------------------------------------------------------------------------
+
+@named("sender left out of the marks")
+class _(Box):
+    def serve(self, conn, content):
+        before = conn.due
+        answer = super().serve(conn, content)
+        if content[0] in (10, 23):
+            conn.due = before
+        return answer
+
+
+@named("only the sender marked")
+class _(Box):
+    def serve(self, conn, content):
+        before = [other.due for other in self.connections]
+        answer = super().serve(conn, content)
+        for other, due in zip(self.connections, before):
+            if other is not conn:
+                other.due = due
+        return answer
+
+
+@named("due set where no relay changed")
+class _(Box):
+    def put_relay(self, relay, state):
+        super().put_relay(relay, state)
+        return True
+
+
+@named("due set by mask 0")
+class _(Box):
+    def block_change(self, mask, state):
+        super().block_change(mask, state)
+        if mask == 0:
+            self.changed()
+
+
+@named("due set where the level stays")
+class _(Box):
+    def level(self, k, v):
+        answer = super().level(k, v)
+        if answer == SERVED:
+            self.changed()
+        return answer
+
+
+@named("due set by clearing a count")
+class _(Box):
+    def channel_action(self, action, inp, relay):
+        super().channel_action(action, inp, relay)
+        if action == 5:
+            self.changed()
+
+
+@named("due set with Monitor off")
+class _(Box):
+    def changed(self):
+        for conn in self.connections:
+            if conn.open and conn.rank >= 1:
+                conn.due = 1
+
+
+@named("due judged once for all entries of a write")
+class _(Box):
+    def write_devices(self, conn, fields):
+        states = [relay.state for relay in self.relays]
+        marks = [other.due for other in self.connections]
+        answer = super().write_devices(conn, fields)
+        if states == [relay.state for relay in self.relays]:
+            for other, due in zip(self.connections, marks):
+                other.due = due
+        return answer
+
+
+@named("request 1 clears the due mark")
+class _(Box):
+    def request(self, conn, fields):
+        answer = super().request(conn, fields)
+        if answer[:1] == b"\x01":
+            conn.due = 0
+        return answer
+
+
+@named("request 4 leaves the due mark")
+class _(Box):
+    def request(self, conn, fields):
+        due = conn.due
+        answer = super().request(conn, fields)
+        conn.due = due
+        return answer
+
+
+@named("request 5 sets the due mark")
+class _(Box):
+    def request(self, conn, fields):
+        answer = super().request(conn, fields)
+        if fields.content[1:3] == b"\x00\x05":
+            conn.due = 1
+        return answer
+
+
+# -- frame -----------------------------------------------------------------------------------------
+
+class OneStore(Box):
+    """The bytes_ of a box with one half-read store."""
+
+    def bytes_(self, c, cap, piece):
+        if c <= 3:
+            self.connections[c].joined = self.store
+        answer = super().bytes_(c, cap, piece)
+        if c <= 3:
+            self.store = self.connections[c].joined
+        return answer
+
+    def power(self, *settings):
+        super().power(*settings)
+        self.store = bytearray()
+
+
+@named("one half-read store for all connections")
+class _(OneStore):
+    pass
+
+
+@named("checksum judged before the last byte is in")
+class _(Box):
+    def bytes_(self, c, cap, piece):
+        if self.refuse_call(c, cap) == 0:
+            joined = self.connections[c].joined + piece
+            if len(joined) >= 5 and joined[0] == 1:
+                size = number(joined[1:3])
+                early = joined[5:4 + size]
+                if 1 <= size <= 1024 and len(joined) >= 4 + size and not self.checksum_passes(number(joined[3:5]), early):
+                    if crc16(joined[5:5 + size]) != number(joined[3:5]):
+                        taken = max(0, 4 + size - len(self.connections[c].joined))
+                        self.connections[c].joined = bytearray()
+                        return BAD_CHECKSUM, taken, b""
+        return super().bytes_(c, cap, piece)
+
+
+@named("checksum without the last byte")
+class _(Box):
+    def checksum_passes(self, sent, content):
+        return super().checksum_passes(sent, content[:-1])
+
+
+@named("checksum 0xFFFF checked")
+class _(Box):
+    def checksum_passes(self, sent, content):
+        return sent == crc16(content)
+
+
+@named("checksum 0 passes unchecked")
+class _(Box):
+    def checksum_passes(self, sent, content):
+        return sent == 0 or super().checksum_passes(sent, content)
+
+
+@named("checksum of N = 0 not judged")
+class _(Box):
+    def checksum_passes(self, sent, content):
+        return not content or super().checksum_passes(sent, content)
+
+
+@named("checksum judged after the type")
+class _(Box):
+    def judge(self, conn, message):
+        if message[0] == 1 and 6 <= len(message) <= 1029 and message[5] not in self.OFFERED:
+            return NOT_OFFERED, b""
+        return super().judge(conn, message)
+
+
+@named("0x06 inside content a keep-alive")
+class _(Box):
+    def bytes_(self, c, cap, piece):
+        if self.refuse_call(c, cap) == 0 and len(self.connections[c].joined) > 5 and piece[:1] == b"\x06":
+            return KEEP_ALIVE, 1, b""
+        return super().bytes_(c, cap, piece)
+
+
+@named("0x01 inside content begins a frame")
+class _(Box):
+    def bytes_(self, c, cap, piece):
+        if self.refuse_call(c, cap) == 0 and len(self.connections[c].joined) > 5 and piece[:1] == b"\x01":
+            self.connections[c].joined = bytearray()
+        return super().bytes_(c, cap, piece)
+
+
+@named("stray byte taken for a keep-alive")
+class _(Box):
+    def judge(self, conn, message):
+        return (KEEP_ALIVE, b"") if message[0] == 0x86 else super().judge(conn, message)
+
+
+@named("taken one byte past the end")
+class _(Box):
+    def bytes_(self, c, cap, piece):
+        answer, taken, reply = super().bytes_(c, cap, piece)
+        if answer == SERVED and taken < len(piece):
+            taken += 1
+        return answer, taken, reply
+
+
+@named("all of the piece taken though a message ended in it")
+class _(Box):
+    def bytes_(self, c, cap, piece):
+        answer, taken, reply = super().bytes_(c, cap, piece)
+        return answer, len(piece) if answer in (7, 8, 9, 10, 11) else taken, reply
+
+
+@named("strays skipped in one call")
+class _(Box):
+    def bytes_(self, c, cap, piece):
+        answer, taken, reply = super().bytes_(c, cap, piece)
+        if answer == model.STRAY:
+            while taken < len(piece) and piece[taken] not in (1, 6):
+                taken += 1
+        return answer, taken, reply
+
+
+@named("limit off by one: 1,024 refused")
+class _(Box):
+    LONGEST = 1023
+
+
+@named("limit off by one: 1,025 judged")
+class _(Box):
+    LONGEST = 1025
+
+
+@named("message above the limit answered at its header")
+class _(Box):
+    def message_end(self, joined):
+        if len(joined) >= 5 and joined[0] == 1 and number(joined[1:3]) > 1024:
+            return 5
+        return super().message_end(joined)
+
+    def judge(self, conn, message):
+        if message[0] == 1 and number(message[1:3]) > 1024:
+            return TOO_LONG, b""
+        return super().judge(conn, message)
+
+
+@named("message above the limit: half-read message not cleared")
+class _(Box):
+    def judge(self, conn, message):
+        answer, reply = super().judge(conn, message)
+        if answer == TOO_LONG:
+            conn.joined = bytearray(message[:3])
+        return answer, reply
+
+
+@named("bad checksum: half-read message not cleared")
+class _(Box):
+    def judge(self, conn, message):
+        answer, reply = super().judge(conn, message)
+        if answer == BAD_CHECKSUM:
+            conn.joined = bytearray(message[:1])
+        return answer, reply
+
+
+@named("buffer off by one: 4,095 enough")
+class _(Box):
+    BUFFER = 4095
+
+
+@named("buffer off by one: 4,096 too small")
+class _(Box):
+    BUFFER = 4097
+
+
+@named("buffer not judged for an empty piece")
+class _(Box):
+    def bytes_(self, c, cap, piece):
+        if not piece and self.is_open(c):
+            cap = 4096
+        return super().bytes_(c, cap, piece)
+
+
+@named("buffer not judged where nothing is due")
+class _(Box):
+    def collect(self, c, cap):
+        if self.is_open(c) and not self.connections[c].due:
+            return NOTHING_ENDED, b""
+        return super().collect(c, cap)
+
+
+@named("buffer judged after the bytes are taken")
+class _(Box):
+    def bytes_(self, c, cap, piece):
+        answer = super().bytes_(c, cap, piece)
+        if answer[0] == model.SHORT_BUFFER and super().bytes_(c, 4096, piece)[0] == NOTHING_ENDED:
+            return model.SHORT_BUFFER, 0, b""
+        return answer
+
+
+@named("reply with checksum 0xFFFF")
+class _(Box):
+    def frame(self, content):
+        return b"\x01" + field(len(content), 2) + b"\xFF\xFF" + content
+
+
+# -- messages offered --------------------------------------------------------------------------------
+
+@named("rank judged before the type")
+class _(Box):
+    def serve(self, conn, content):
+        if content and conn.rank == 0:
+            raise Refused(model.LOW_RANK)
+        return super().serve(conn, content)
+
+
+@named("rank 1 sets the clock")
+class _(Box):
+    def rank_needed(self, kind):
+        return 1
+
+
+@named("Monitor message arriving answered")
+class _(Box):
+    OFFERED = dict(Box.OFFERED)
+    OFFERED[1] = "arriving"
+
+    def arriving(self, conn, fields):
+        return self.monitor_content()
+
+
+@named("length judged before the request")
+class _(Box):
+    def request(self, conn, fields):
+        if len(fields.content) not in (3, 7):
+            raise Refused(BAD_LENGTH)
+        return super().request(conn, fields)
+
+
+@named("length judged before the action")
+class _(Box):
+    def command(self, conn, fields):
+        if len(fields.content) != 4:
+            raise Refused(BAD_LENGTH)
+        return super().command(conn, fields)
+
+
+@named("channel judged before the length")
+class _(Box):
+    def command(self, conn, fields):
+        content = fields.content
+        if len(content) >= 4 and content[1] in (1, 2, 3, 5, 8, 9) and not 1 <= number(content[2:4]) <= 8:
+            raise Refused(OUT_OF_RANGE)
+        return super().command(conn, fields)
+
+
+@named("flags of an enumeration judged before the length")
+class _(Box):
+    def enumerate_devices(self, conn, fields):
+        if len(fields.content) >= 2 and fields.content[1] not in (1, 2, 3):
+            raise Refused(OUT_OF_RANGE)
+        return super().enumerate_devices(conn, fields)
+
+
+@named("request 3 served")
+class _(Box):
+    def request(self, conn, fields):
+        if fields.content == b"\x05\x00\x03":
+            return b""
+        return super().request(conn, fields)
+
+
+@named("interval of 3 bytes let through")
+class _(Box):
+    def request(self, conn, fields):
+        if len(fields.content) == 6:
+            fields = Fields(fields.content + b"\x00", 1)
+        return super().request(conn, fields)
+
+
+@named("action 10 changes relays that are not masked")
+class _(Box):
+    def block_change(self, mask, state):
+        super().block_change(0xFF if mask else 0, state & mask)
+
+
+@named("highest bit of the mask is channel 1")
+class _(Box):
+    def block_change(self, mask, state):
+        turned = [int(f"{byte:08b}"[::-1], 2) for byte in (mask, state)]
+        super().block_change(*turned)
+
+
+@named("channel 8 not served")
+class _(Box):
+    def command(self, conn, fields):
+        if len(fields.content) == 4 and fields.content[1] != 10 and fields.content[2:] == b"\x00\x08":
+            raise Refused(OUT_OF_RANGE)
+        return super().command(conn, fields)
+
+
+@named("repeated ID reported once")
+class _(Box):
+    def read_devices(self, conn, fields):
+        answer = super().read_devices(conn, fields)
+        count = number(fields.content[1:3])
+        ids = dict.fromkeys(fields.content[3 + 8 * k:11 + 8 * k] for k in range(count))
+        return answer if len(ids) == count else super().read_devices(
+            conn, Fields(b"\x15" + field(len(ids), 2) + b"".join(ids), 1))
+
+
+@named("unknown ID left out of the answer")
+class _(Box):
+    def read_devices(self, conn, fields):
+        super().read_devices(conn, fields)
+        ids = [fields.content[k:k + 8] for k in range(3, len(fields.content), 8)]
+        ids = [id for id in ids if number(id) in self.devices]
+        return super().read_devices(conn, Fields(b"\x15" + field(len(ids), 2) + b"".join(ids), 1))
+
+
+@named("127 IDs refused")
+class _(Box):
+    def read_devices(self, conn, fields):
+        if fields.content[1:3] == b"\x00\x7F":
+            raise Refused(BAD_LENGTH)
+        return super().read_devices(conn, fields)
+
+
+@named("a bad third write entry undoes the first two")
+class _(Box):
+    def write_devices(self, conn, fields):
+        counts = [inp.count for inp in self.inputs]
+        states = [relay.state for relay in self.relays]
+        self.entries = []
+        answer = super().write_devices(conn, fields)
+        if len(self.entries) >= 3 and not self.entries[2]:
+            for inp, count in zip(self.inputs, counts):
+                inp.count = count
+            for relay, state in zip(self.relays, states):
+                relay.state = state
+        return answer
+
+    def write_entry(self, id, block):
+        self.entries.append(super().write_entry(id, block))
+        return self.entries[-1]
+
+
+@named("entries after a bad one not done")
+class _(Box):
+    def write_devices(self, conn, fields):
+        self.failed = False
+        return super().write_devices(conn, fields)
+
+    def write_entry(self, id, block):
+        if not self.failed:
+            self.failed = not super().write_entry(id, block)
+        return not self.failed
+
+
+@named("entries written before the message is known to fit")
+class _(Box):
+    def write_devices(self, conn, fields):
+        content, position = fields.content, 3
+        try:
+            return super().write_devices(conn, fields)
+        except Refused:
+            for _ in range(number(content[1:3]) if len(content) >= 3 else 0):
+                block = position + 10
+                size = number(content[position + 8:block])
+                if block + size > len(content) or block > len(content):
+                    break
+                self.write_entry(number(content[position:position + 8]), content[block:block + size])
+                position = block + size
+            raise
+
+
+@named("failed entries counted as written")
+class _(Box):
+    def write_devices(self, conn, fields):
+        return super().write_devices(conn, fields)[:1] + fields.content[1:3]
+
+
+@named("write answered with 14")
+class _(Box):
+    def write_devices(self, conn, fields):
+        return b"\x0E" + super().write_devices(conn, fields)[1:]
+
+
+@named("flags 1 and 2 together reset the count")
+class _(Box):
+    def write_input(self, inp, block):
+        written = super().write_input(inp, block)
+        if written and block[0] & 1:
+            inp.count = 0
+        return written
+
+
+@named("count written without its flag")
+class _(Box):
+    def write_input(self, inp, block):
+        written = super().write_input(inp, block)
+        if written and len(block) == 5 and not block[0] & 3:
+            inp.count = number(block[1:5])
+        return written
+
+
+@named("write flags 0 not written")
+class _(Box):
+    def write_entry(self, id, block):
+        return block[:1] != b"\x00" and super().write_entry(id, block)
+
+
+@named("unknown input flag let through")
+class _(Box):
+    def write_input(self, inp, block):
+        return super().write_input(inp, bytes([block[0] & 7]) + block[1:] if block else block)
+
+
+@named("unknown relay flag 4 let through")
+class _(Box):
+    def write_relay(self, relay, block):
+        return super().write_relay(relay, bytes([block[0] & ~4]) + block[1:] if block else block)
+
+
+@named("relay state above 1 taken for closed")
+class _(Box):
+    def write_relay(self, relay, block):
+        if len(block) == 2 and block[0] & 1:
+            block = block[:1] + bytes([1 if block[1] else 0])
+        return super().write_relay(relay, block)
+
+
+@named("relay state above 1 refused though it is not written")
+class _(Box):
+    def write_relay(self, relay, block):
+        return not (len(block) == 2 and block[1] > 1) and super().write_relay(relay, block)
+
+
+@named("usage reset though the entry fails")
+class _(Box):
+    def write_relay(self, relay, block):
+        if block and block[0] == 3:
+            relay.usage = 0
+        return super().write_relay(relay, block)
+
+
+@named("relay's block of one byte refused")
+class _(Box):
+    def write_relay(self, relay, block):
+        return len(block) == 2 and super().write_relay(relay, block)
+
+
+@named("enumeration flag 2 finds all")
+class _(Box):
+    def enumerate_devices(self, conn, fields):
+        answer = super().enumerate_devices(conn, fields)
+        if fields.content[1] == 2:
+            answer = answer[:2] + super().enumerate_devices(conn, Fields(b"\x1A\x03", 1))[2:]
+        return answer
+
+
+@named("enumeration with relays before inputs")
+class _(Box):
+    def enumerate_devices(self, conn, fields):
+        answer = super().enumerate_devices(conn, fields)
+        return answer[:4] + answer[68:] + answer[4:68]
+
+
+# -- lines -------------------------------------------------------------------------------------------
+
+@named("lower-case digits let through")
+class _(Box):
+    def line(self, text):
+        return super().line(text.upper().replace("BYTES", "bytes") if text.startswith("bytes") else text)
+
+
+@named("time above 32 bits cut")
+class _(Box):
+    def line(self, text):
+        words = text.split(" ")
+        if words[0] == "pass" and len(words) == 2 and words[1].isdigit():
+            text = f"pass {int(words[1]) & TOP32}"
+        return super().line(text)
+
+
+# ---------------------------------------------------------------------------------------------
+# The program
+# ---------------------------------------------------------------------------------------------
+
+def caught_after(box_class, made):
+    """The number of events until a line differs from the model's; None if none does."""
+    events = 0
+    for trace in made:
+        box = box_class()
+        for line, printed in zip(trace.lines, trace.printed):
+            events += traces.answer_of(line, printed) is not None
+            if box.line(line) != printed:
+                return events
+    return None
+
+
+def main():
+    parser = argparse.ArgumentParser(description="Seeded faults of the model, and after how many events each is caught.")
+    parser.add_argument("--seed", default="1")
+    parser.add_argument("--events", type=int, default=20000)
+    parser.add_argument("--length", type=int, default=1000, help="events of one trace (default 1000)")
+    parser.add_argument("--as", dest="play", metavar="NAME", help="play this mutant on standard input")
+    parser.add_argument("--list", action="store_true")
+    options = parser.parse_args()
+    if options.list:
+        print("\n".join(MUTANTS))
+        return 0
+    if options.play:
+        model.Box = MUTANTS[options.play]
+        model.main()
+        return 0
+    start = time.process_time()
+    made = list(traces.many(options.seed, options.events, options.length))
+    events = sum(trace.events for trace in made)
+    free = []
+    for name, box_class in MUTANTS.items():
+        after = caught_after(box_class, made)
+        print(f"{after if after is not None else 'NOT CAUGHT':>10}  {name}")
+        if after is None:
+            free.append(name)
+    print(f"{len(MUTANTS) - len(free)} of {len(MUTANTS)} caught within {events} events, seed {options.seed} "
+          f"({time.process_time() - start:.1f} s)")
+    return 1 if free else 0
+
+
+if __name__ == "__main__":
+    sys.exit(main())

@@ -1,0 +1,665 @@
+#!/usr/bin/env python3
+"""Small checks of the model against the documents' own examples.
+
+    python3 tests/test_model.py
+
+Expected values are those of 01-scope.md, REPLAY.md and 001; the sentence stands with each check.
+"""
+
+import os
+import sys
+import subprocess
+import unittest
+
+import hold
+import traces
+from model import Box, CRC_TABLE, INPUT_IDS, RELAY_IDS, TOP32, TOP64, crc16, field
+
+HERE = os.path.dirname(os.path.abspath(__file__))
+
+
+class Case(unittest.TestCase):
+    """A box with connection 0 open at rank 2 and its first Monitor message collected."""
+
+    def setUp(self):
+        self.box = Box()
+        self.box.open(0, 2)
+        self.box.collect(0, 4096)
+
+    def power(self, **settings):
+        """Power-up with settings of input 1 or relay 1."""
+        places = {"setpoint1": 0, "setpoint2": 1, "usage_setpoint": 2, "switch": 3, "relay_usage_setpoint": 32}
+        numbers = [0] * 40
+        for name, value in settings.items():
+            numbers[places[name]] = value
+        self.box.power(numbers)
+        self.box.open(0, 2)
+        self.box.collect(0, 4096)
+
+    def feed(self, hexadecimal, c=0, cap=4096):
+        """Answer, taken, reply."""
+        return self.box.bytes_(c, cap, bytes.fromhex(hexadecimal))
+
+    def content(self, hexadecimal, c=0, sent=0xFFFF):
+        """The answer to a message with this content, and the content of the reply in hexadecimal."""
+        message = traces.framed(bytes.fromhex(hexadecimal), sent)
+        answer, taken, reply = self.box.bytes_(c, 4096, message)
+        self.assertEqual(taken, len(message))
+        if reply:
+            self.assertEqual(reply[:1], b"\x01")
+            self.assertEqual(reply[1:3], field(len(reply) - 5, 2))
+            self.assertEqual(reply[3:5], field(crc16(reply[5:]), 2), "replies always carry the true checksum")
+        return answer, reply[5:].hex().upper()
+
+    def answer(self, hexadecimal, c=0, sent=0xFFFF):
+        return self.content(hexadecimal, c, sent)[0]
+
+    def relays(self):
+        """Channel 8 to channel 1, as 01 writes them."""
+        return "".join(str(relay.state) for relay in reversed(self.box.relays))
+
+    def due(self, c=0):
+        return self.box.connections[c].due
+
+    def count(self, k=1):
+        return self.box.inputs[k - 1].count
+
+    def write(self, *entries):
+        """The number written; each entry an ID and a block in hexadecimal."""
+        text = "".join(f"{id:016X}{len(block) // 2:04X}{block}" for id, block in entries)
+        answer, reply = self.content(f"17{len(entries):04X}{text}")
+        self.assertEqual(answer, 1)
+        self.assertEqual(reply[:2], "18")
+        return int(reply[2:], 16)
+
+    def read(self, id):
+        """The block of one device in hexadecimal."""
+        answer, reply = self.content(f"150001{id:016X}")
+        self.assertEqual((answer, reply[:22]), (1, f"160001{id:016X}"))
+        self.assertEqual(int(reply[22:26], 16), len(reply[26:]) // 2)
+        return reply[26:]
+
+
+class EachEdge(Case):
+    """01, 'Both sides of each edge'."""
+
+    def test_count_4294967294_a_rise_then_another(self):
+        self.write((INPUT_IDS[0], "02FFFFFFFE"))
+        self.assertEqual(self.count(), 4294967294)
+        self.box.level(1, 1)
+        self.assertEqual(self.count(), 4294967295)
+        self.box.level(1, 0)
+        self.box.level(1, 1)
+        self.assertEqual(self.count(), 4294967295)
+
+    def test_input_on_told_on(self):
+        self.box.level(1, 1)
+        self.box.collect(0, 4096)
+        self.assertEqual(self.box.level(1, 1), 1)
+        self.assertEqual((self.count(), self.due()), (1, 0))
+        self.box.open(1, 1)
+        self.box.level(1, 1)
+        self.assertEqual((self.count(), self.due(0), self.due(1)), (1, 0, 1))
+
+    def test_relays_00000101_mask_00000110_state_00000010(self):
+        self.answer("0A0AFF05")
+        self.assertEqual(self.relays(), "00000101")
+        self.assertEqual(self.content("0A0A0602"), (1, ""))
+        self.assertEqual(self.relays(), "00000011")
+
+    def test_mask_0(self):
+        self.assertEqual(self.content("0A0A00FF"), (1, ""))
+        self.assertEqual((self.relays(), self.due()), ("00000000", 0))
+
+    def test_channels_8_9_0(self):
+        self.assertEqual(self.content("0A030008"), (1, ""))
+        self.assertEqual(self.relays(), "10000000")
+        self.assertEqual(self.answer("0A030009"), 11)
+        self.assertEqual(self.answer("0A030000"), 11)
+        self.assertEqual(self.relays(), "10000000")
+
+    def test_n_0_with_0xffff(self):
+        self.assertEqual(self.feed("010000FFFF"), (8, 5, b""))
+
+    def test_request_4_with_interval(self):
+        self.assertEqual(self.content("05000400000000"), (1, ""))
+        self.assertEqual(self.answer("050004000000"), 10)
+
+    def test_write_flags_3_count_7(self):
+        self.assertEqual(self.write((INPUT_IDS[0], "0300000007")), 1)
+        self.assertEqual(self.count(), 7)
+
+    def test_setpoint_100(self):
+        self.power(setpoint1=100, setpoint2=0)
+        self.write((INPUT_IDS[0], "0200000064"))
+        self.assertEqual(self.read(INPUT_IDS[0])[12:16], "0000")
+        self.assertEqual(self.content("050001")[1][34:50], "0000000000640000")
+        self.write((INPUT_IDS[0], "0200000065"))
+        self.assertEqual(self.read(INPUT_IDS[0])[12:16], "0100")
+        self.assertEqual(self.content("050001")[1][34:50], "0000000000650100")
+
+    def test_n_1024_judged_1025_not(self):
+        self.assertEqual(self.answer("05" + "00" * 1023), 10)
+        self.assertEqual(self.answer("63" + "00" * 1023), 8)
+        self.assertEqual(self.answer("63" + "00" * 1023, sent=1), 7)
+        self.assertEqual(self.answer("63" + "00" * 1024), 6)
+
+    def test_buffer_4095(self):
+        self.assertEqual(self.feed("06", cap=4095), (4, 0, b""))
+        self.assertEqual(self.feed("06", cap=4096), (2, 1, b""))
+        self.assertEqual(self.box.collect(0, 4095), (4, b""))
+        self.assertEqual(self.box.collect(0, 4096), (0, b""))
+
+
+class ConsoleExample(Case):
+    def test_console_example(self):
+        """'For each it prints answer and relays as four digits.'"""
+        printed = []
+        for line in ("010004FFFF0A0A0505", "010004FFFF0A030001", "010003FFFF0A0300", "06"):
+            answer = self.feed(line)[0]
+            printed.append(f"{answer:02X}{int(self.relays(), 2):02X}")
+        self.assertEqual(printed, ["0105", "0104", "0A04", "0204"])
+
+
+class ReplayPage(unittest.TestCase):
+    EXAMPLE = (
+        ("open 0 2", "1"),
+        ("bytes 0 4096 010004FFFF0A0A0505", "1 9 0 -"),
+        ("state", "C 0 I 0,0,0 0,0,0 0,0,0 0,0,0 0,0,0 0,0,0 0,0,0 0,0,0 R 1,0 0,0 1,0 0,0 0,0 0,0 0,0 0,0 "
+                  "N 1,2,1,1,0 0,0,0,0,0 0,0,0,0,0 0,0,0,0,0"),
+        ("bytes 0 4095 06", "4 0 0 -"),
+        ("bytes 0 4096 0601", "2 1 0 -"),
+        ("pass 7", "1"),
+        ("bytes 0 4096 01000365FF050000", "7 8 0 -"),
+    )
+
+    def test_example(self):
+        box = Box()
+        for line, printed in self.EXAMPLE:
+            self.assertEqual(box.line(line), printed)
+
+    def test_example_as_a_program(self):
+        text = "".join(line + "\n" for line, _ in self.EXAMPLE)
+        done = subprocess.run([sys.executable, os.path.join(HERE, "model.py")], input=text, capture_output=True, text=True)
+        self.assertEqual(done.stdout, "".join(printed + "\n" for _, printed in self.EXAMPLE))
+
+    def test_any_other_line(self):
+        box = Box()
+        before = box.state()
+        for line in traces.BAD_LINES:
+            self.assertEqual(box.line(line), "?", line)
+        self.assertEqual(box.line("power " + " ".join(["0"] * 39)), "?")
+        self.assertEqual(box.line("power " + " ".join(["0"] * 41)), "?")
+        self.assertEqual(box.line("power 0 0 0 2 " + " ".join(["0"] * 36)), "?", "alarm switch (0 or 1)")
+        self.assertEqual(box.line("bytes 0 4096 " + "06" * 100001), "?", "up to 200,000 digits")
+        self.assertEqual(box.line("bytes 0 4096 " + "06" * 100000), "3 0 0 -")
+        self.assertEqual(box.state(), before)
+
+    def test_numbers_handed_on(self):
+        """'C, RANK, K and V are handed on as they are, 0 to 255; D 0 to 4294967295.'  CAP '0 to 65536'."""
+        box = Box()
+        for line, printed in (("open 255 255", "3"), ("open 3 255", "13"), ("close 255", "3"), ("level 255 255", "11"),
+                              ("pass 4294967295", "1"), ("pass 0", "1"), ("open 3 2", "1"), ("open 3 255", "12"),
+                              ("bytes 3 65536 06", "2 1 0 -"), ("bytes 3 0 06", "4 0 0 -"), ("bytes 3 4096 -", "0 0 0 -")):
+            self.assertEqual(box.line(line), printed, line)
+
+    def test_power_settings(self):
+        box = Box()
+        self.assertEqual(box.line("power " + " ".join(str(n) for n in list(range(3)) + [1] + [0] * 28 + list(range(8)))), "1")
+        inp = box.inputs[0]
+        self.assertEqual((inp.setpoint1, inp.setpoint2, inp.usage_setpoint, inp.switch), (0, 1, 2, 1))
+        self.assertEqual([relay.usage_setpoint for relay in box.relays], list(range(8)))
+        box.line("open 0 2")
+        self.assertEqual(box.line("power"), "1")
+        self.assertEqual(box.connections[0].open, 0, "a fresh box")
+
+    def test_got(self):
+        """'`got` is how many bytes of a half-read message have been taken (0 to 5 + N - 1).'"""
+        box = Box()
+        box.line("open 1 0")
+        for piece, got in (("01", 1), ("00", 2), ("02FF", 4), ("FF", 5), ("06", 6), ("0101", 0)):
+            box.line(f"bytes 1 4096 {piece}")
+            self.assertEqual(box.state().split(" ")[-3], f"1,0,1,0,{got}")
+        box.line("bytes 1 4096 01FFFF0000" + "06" * 65534)
+        self.assertEqual(box.state().split(" ")[-3], f"1,0,1,0,{5 + 65535 - 1}")
+        self.assertEqual(box.line("bytes 1 4096 0606"), "6 1 0 -")
+        self.assertEqual(box.state().split(" ")[-3], "1,0,1,0,0")
+        box.line("bytes 1 4096 0100")
+        box.line("close 1")
+        self.assertEqual(box.state().split(" ")[-3], "0,0,0,0,0")
+
+
+class Published(Case):
+    """001: 'CRC Test Strings', its table, its frames."""
+
+    def test_crc_test_strings(self):
+        self.assertEqual(crc16(b"0123456789"), 0x443D)
+        self.assertEqual(crc16(b"ABCDEFG"), 0x9E6C)
+        self.assertEqual(crc16(b""), 0x0000)
+
+    def test_crc_table(self):
+        """The first row, one from the middle and the last row of 001's printed table."""
+        self.assertEqual(CRC_TABLE[:8], (0x0000, 0xC0C1, 0xC181, 0x0140, 0xC301, 0x03C0, 0x0280, 0xC241))
+        self.assertEqual(CRC_TABLE[128:136], (0xA001, 0x60C0, 0x6180, 0xA141, 0x6300, 0xA3C1, 0xA281, 0x6240))
+        self.assertEqual(CRC_TABLE[248:], (0x8201, 0x42C0, 0x4380, 0x8341, 0x4100, 0x81C1, 0x8081, 0x4040))
+
+    FRAMES = (
+        "01 00 0d 60 b7 7e 05 6a 6e 69 6f 72 05 6a 6e 69 6f 72",
+        "01 00 02 f0 20 7d 80",
+        "01 00 13 be 61 0b 00 01 00 de 0d 24 53 65 72 69 61 6c 4e 75 6d 62 65 72",
+        "01 00 0f 9e d2 0c 00 01 00 de 09 31 30 35 31 30 30 33 32 38",
+        "01 00 2c 2c 04 0f 00 03 00 00 0b 44 65 76 69 63 65 2f 44 65 73 63 00 01 08 24 56 65 72 73 69 6f 6e "
+        "00 02 0d 24 53 65 72 69 61 6c 4e 75 6d 62 65 72",
+        "01 00 31 98 9a 0c 00 03 00 00 16 6a 72 33 31 30 20 44 65 76 65 6c 6f 70 6d 65 6e 74 20 55 6e 69 74 "
+        "00 01 08 32 2e 30 31 2e 33 34 36 00 02 07 34 39 30 34 30 30 34",
+    )
+
+    def test_frames(self):
+        """Their lengths and checksums are right, their types not offered: 8 and not 7."""
+        for text in self.FRAMES:
+            frame = bytes.fromhex(text)
+            self.assertEqual(frame, self.box.frame(frame[5:]))
+            self.assertEqual(self.box.bytes_(0, 4096, frame + b"\x06"), (8, len(frame), b""))
+            damaged = frame[:-1] + bytes([frame[-1] ^ 1])
+            self.assertEqual(self.box.bytes_(0, 4096, damaged), (7, len(frame), b""))
+
+    def test_frame_with_0xffff(self):
+        frame = "01 00 0d ff ff 7e 05 6a 6e 69 6f 72 05 6a 6e 69 6f 72"
+        self.assertEqual(self.feed(frame), (8, 18, b""))
+
+    def test_ids(self):
+        """'din1 to din8 are 0x01FF to 0x08FF, rout1 to rout8 are 0x0101FF to 0x0108FF, in steps of 0x100.'"""
+        self.assertEqual(INPUT_IDS, (0x01FF, 0x02FF, 0x03FF, 0x04FF, 0x05FF, 0x06FF, 0x07FF, 0x08FF))
+        self.assertEqual(RELAY_IDS, (0x0101FF, 0x0102FF, 0x0103FF, 0x0104FF, 0x0105FF, 0x0106FF, 0x0107FF, 0x0108FF))
+
+
+class BoxAndEvents(Case):
+    """01, 'What the box holds' and 'Events besides bytes'."""
+
+    def test_power_up(self):
+        zeros = " ".join(["0,0,0"] * 8), " ".join(["0,0"] * 8), " ".join(["0,0,0,0,0"] * 4)
+        self.assertEqual(Box().state(), "C 0 I %s R %s N %s" % zeros)
+
+    def test_alarm_state(self):
+        """'Alarm State is 1 when the switch is set and the input is on.'"""
+        for switch in (0, 1):
+            self.power(switch=switch)
+            self.assertEqual(self.read(INPUT_IDS[0])[:4], "0000")
+            self.box.level(1, 1)
+            self.assertEqual(self.read(INPUT_IDS[0])[:4], f"010{switch}")
+
+    def test_setpoint_0_means_no_alarm(self):
+        self.box.level(1, 1)
+        self.box.pass_(1)
+        self.assertEqual(self.read(INPUT_IDS[0]), "0100" + "00000001" + "0000" + "0000000000000001" + "00")
+
+    def test_usage_alarm_at_or_above(self):
+        self.power(usage_setpoint=10, relay_usage_setpoint=10)
+        self.box.level(1, 1)
+        self.answer("0A010001")
+        for d, alarm in ((9, "00"), (1, "01"), (1, "01")):
+            self.box.pass_(d)
+            self.assertEqual(self.read(INPUT_IDS[0])[-2:], alarm)
+            self.assertEqual(self.read(RELAY_IDS[0])[-2:], alarm)
+
+    def test_level(self):
+        """'An event takes no bytes, and a refused one (11 for a bad input or level) changes nothing at all.'"""
+        before = self.box.state()
+        for k, v in ((0, 1), (9, 1), (255, 0), (1, 2), (8, 255)):
+            self.assertEqual(self.box.level(k, v), 11)
+        self.assertEqual(self.box.state(), before)
+        self.assertEqual([self.box.level(8, v) for v in (1, 0, 1)], [1, 1, 1])
+        self.assertEqual(self.count(8), 2)
+        self.assertEqual(self.due(), 1)
+
+    def test_pass(self):
+        """'The clock, the usage of each input that is on and of each closed relay grow by d.'"""
+        self.box.level(2, 1)
+        self.answer("0A010003")
+        self.assertEqual(self.box.pass_(TOP32), 1)
+        self.assertEqual(self.box.pass_(5), 1)
+        grown = TOP32 + 5
+        self.assertEqual(self.box.clock, grown)
+        self.assertEqual([inp.usage for inp in self.box.inputs], [0, grown] + [0] * 6)
+        self.assertEqual([relay.usage for relay in self.box.relays], [0, 0, grown] + [0] * 5)
+
+    def test_clock_stops(self):
+        self.assertEqual(self.content("07FFFFFFFFFFFFFFFE"), (1, ""))
+        for d, clock in ((0, TOP64 - 1), (1, TOP64), (1, TOP64), (TOP32, TOP64)):
+            self.box.pass_(d)
+            self.assertEqual(self.box.clock, clock)
+
+    def test_usage_stops(self):
+        self.box.level(1, 1)
+        self.box.inputs[0].usage = self.box.relays[0].usage = TOP64 - 1
+        self.answer("0A010001")
+        self.box.pass_(2)
+        self.assertEqual((self.box.inputs[0].usage, self.box.relays[0].usage), (TOP64, TOP64))
+
+    def test_open_and_close(self):
+        """'Fresh, Monitor on, due if rank is 1 or 2'; 'checked in the order 3, 12, 13'."""
+        for rank, due in ((0, 0), (1, 1), (2, 1)):
+            self.assertEqual(self.box.open(1, rank), 1)
+            conn = self.box.connections[1]
+            self.assertEqual((conn.open, conn.rank, conn.monitor, conn.due), (1, rank, 1, due))
+            self.assertEqual(self.box.open(1, 2), 12)
+            self.assertEqual(self.box.open(1, 3), 12)
+            self.assertEqual(self.box.close(1), 1)
+            self.assertEqual(self.box.close(1), 3)
+            self.assertEqual(self.box.open(1, 3), 13)
+            self.assertEqual(self.box.open(4, 3), 3)
+        self.assertEqual(self.box.close(4), 3)
+
+    def test_close_drops_the_half_read_message(self):
+        self.feed("010004FFFF0A01")
+        self.box.close(0)
+        self.box.open(0, 2)
+        self.assertEqual(self.feed("0001"), (5, 1, b""))
+
+    def test_collect(self):
+        """'Several changes before one collection give one message, with the state at collection.'"""
+        self.box.level(1, 1)
+        self.box.pass_(3)
+        self.box.level(1, 0)
+        self.box.pass_(4)
+        answer, reply = self.box.collect(0, 4096)
+        self.assertEqual(answer, 1)
+        self.assertEqual(reply[5:], self.box.monitor_content())
+        self.assertEqual(reply[22:30].hex(), "0000000000010000")
+        self.assertEqual(reply[-1], 7)
+        self.assertEqual(self.box.collect(0, 4096), (0, b""))
+        self.assertEqual(self.box.collect(1, 4096), (3, b""))
+        self.assertEqual(self.box.collect(1, 0), (3, b""))
+
+    def test_due_marks(self):
+        """'Due on each open connection of rank 1 or 2 that has it on, the sender included.'"""
+        for c, rank in ((1, 1), (2, 0), (3, 2)):
+            self.box.open(c, rank)
+            self.box.collect(c, 4096)
+        self.answer("050004", 3)
+        self.answer("0A010001")
+        self.assertEqual([self.due(c) for c in range(4)], [1, 1, 0, 0])
+        self.box.close(1)
+        self.answer("0A020001")
+        self.assertEqual([self.due(c) for c in range(4)], [1, 0, 0, 0])
+
+    def test_close_and_then_open_makes_due(self):
+        self.assertEqual(self.write((RELAY_IDS[0], "0101"), (RELAY_IDS[0], "0100")), 2)
+        self.assertEqual((self.relays(), self.due()), ("00000000", 1))
+
+    def test_no_change_no_mark(self):
+        for content in ("0A020001", "0A050001", "0A080001", "0A090001", "0A0AFF00", "0700000000000000AA"):
+            self.assertEqual(self.content(content), (1, ""))
+        self.write((RELAY_IDS[0], "0100"), (RELAY_IDS[0], "02"), (INPUT_IDS[0], "0700000001"), (RELAY_IDS[0], "0102"))
+        self.assertEqual(self.due(), 0)
+
+
+class FrameRules(Case):
+    """01, 'Frame', 'Answer numbers' and 'Mistakes that invite'."""
+
+    def test_starts(self):
+        """'0x06 is a keep-alive, any other byte is stray.'"""
+        for byte in range(256):
+            answer = {1: 0, 6: 2}.get(byte, 5)
+            self.box.open(1, 0)
+            self.assertEqual(self.box.bytes_(1, 4096, bytes([byte, 6])), (answer, 2 if byte == 1 else 1, b""))
+            self.box.close(1)
+
+    def test_inside_a_frame_no_byte_has_such_a_meaning(self):
+        for byte in bytes.fromhex("010004FFFF0A0A06"):
+            self.assertEqual(self.box.bytes_(0, 4096, bytes([byte])), (0, 1, b""))
+        self.assertEqual(self.feed("06"), (1, 1, b""))
+        self.assertEqual(self.relays(), "00000110")
+
+    def test_checksum_at_the_last_byte(self):
+        """'A checksum judged before the last byte is in' is a mistake."""
+        self.assertEqual(self.feed("0100031234050000"[:-2]), (0, 7, b""))
+        self.assertEqual(self.feed("00"), (7, 1, b""))
+
+    def test_n_0(self):
+        """Checksum of nothing, 0, is judged first."""
+        self.assertEqual(self.feed("0100000001"), (7, 5, b""))
+        self.assertEqual(self.feed("0100000000"), (8, 5, b""))
+
+    def test_two_half_read_messages(self):
+        self.box.open(1, 1)
+        self.assertEqual(self.feed("010004FFFF0A01", 0), (0, 7, b""))
+        self.assertEqual(self.feed("010004FFFF0A0A", 1), (0, 7, b""))
+        self.assertEqual(self.feed("0002", 0), (1, 2, b""))
+        self.assertEqual(self.feed("F0F0", 1), (1, 2, b""))
+        self.assertEqual(self.relays(), "11110010")
+
+    def test_taken_through_the_end(self):
+        self.assertEqual(self.feed("010004FFFF0A01000106"), (1, 9, b""))
+        self.assertEqual(self.feed(""), (0, 0, b""))
+        self.assertEqual(self.feed("", cap=4095), (4, 0, b""))
+        self.assertEqual(self.feed("", 1, 0), (3, 0, b""))
+
+    def test_above_the_limit(self):
+        """'The N bytes are swallowed, none judged, and the answer comes at the last of them.'"""
+        self.box.open(1, 0)
+        for c in (0, 1):
+            self.assertEqual(self.feed("01FFFF0000", c), (0, 5, b""))
+            self.assertEqual(self.feed("01" * 65534, c), (0, 65534, b""))
+            self.assertEqual(self.feed("0606", c), (6, 1, b""))
+            self.assertEqual(self.feed("06", c), (2, 1, b""))
+
+    def test_refused_clears_the_half_read_message(self):
+        for message, answer in (("0100031234050000", 7), ("010001FFFF63", 8), ("010001FFFF05", 10), ("010003FFFF050003", 11)):
+            self.assertEqual(self.feed(message), (answer, len(message) // 2, b""))
+            self.assertEqual(self.box.got(self.box.connections[0]), 0)
+
+    def test_order_of_checks(self):
+        self.box.open(1, 0)
+        self.box.open(2, 1)
+        self.assertEqual(self.feed("05", 4, 0), (3, 0, b""))
+        self.assertEqual(self.feed("05", 3, 0), (3, 0, b""))
+        self.assertEqual(self.feed("05", 0, 0), (4, 0, b""))
+        self.assertEqual(self.answer("63", 1, sent=1), 7)
+        self.assertEqual(self.answer("63", 1), 8)
+        self.assertEqual(self.answer("05", 1), 9)
+        self.assertEqual(self.answer("07", 2), 9)
+        self.assertEqual(self.answer("07", 0), 10)
+        self.assertEqual(self.answer("1A", 0), 10)
+        self.assertEqual(self.answer("1A0000", 0), 10)
+        self.assertEqual(self.answer("1A00", 0), 11)
+
+    def test_types(self):
+        """Offered: 5, 7, 10, 21, 23, 26.  All others, 1 included: 8."""
+        for kind in range(256):
+            answer = self.answer(f"{kind:02X}")
+            self.assertEqual(answer, 10 if kind in (5, 7, 10, 21, 23, 26) else 8, kind)
+
+
+class Messages(Case):
+    """01, 'Messages offered'."""
+
+    def test_request_0(self):
+        self.box.pass_(258)
+        self.assertEqual(self.content("050000"), (1, "060000000000000102"))
+
+    def test_request_1(self):
+        """'97 bytes'; 'leaves the due mark'."""
+        self.box.level(1, 1)
+        self.answer("0A010008")
+        self.box.pass_(1)
+        answer, reply = self.content("05000100000000")
+        self.assertEqual(len(reply) // 2, 97)
+        self.assertEqual(reply, "01" + "0F" + b"jr310 3.10.0001".hex().upper() + "0100" + "00000001" + "0000"
+                         + "0000000000000000" * 7 + "0000000000000001" + "0000000000000001")
+        self.assertEqual(self.due(), 1)
+
+    def test_request_2(self):
+        """'16 usages, inputs then relays, then clock, 137 bytes.'"""
+        self.box.level(1, 1)
+        self.answer("0A010001")
+        self.box.pass_(1)
+        self.answer("0A080001")
+        reply = self.content("050002")[1]
+        self.assertEqual(reply, "08" + "00" * 64 + "0000000000000001" + "00" * 56 + "0000000000000001")
+        self.assertEqual(len(reply) // 2, 137)
+
+    def test_requests_4_and_5(self):
+        self.box.level(1, 1)
+        self.assertEqual(self.content("050005"), (1, ""))
+        self.assertEqual(self.due(), 1, "5 leaves the due mark")
+        self.assertEqual(self.content("050004"), (1, ""))
+        self.assertEqual(self.due(), 0)
+        self.box.level(1, 0)
+        self.assertEqual(self.due(), 0)
+        self.assertEqual(self.content("050005"), (1, ""))
+        self.assertEqual(self.due(), 0)
+        self.box.level(1, 1)
+        self.assertEqual(self.due(), 1)
+
+    def test_other_requests(self):
+        """'Others, 3 included: 11'; judged 'as soon as the content holds it, before the length'."""
+        for content in ("050003", "050006", "050100", "05FFFF", "05000300", "0500030000000000"):
+            self.assertEqual(self.answer(content), 11, content)
+        for content in ("05", "0500", "05000000", "0500000000000000"):
+            self.assertEqual(self.answer(content), 10, content)
+
+    def test_set_clock(self):
+        """'8 bytes after the type, any number.'  A clock setting changes no usage."""
+        self.box.level(1, 1)
+        self.box.pass_(5)
+        self.assertEqual(self.content("07FFFFFFFFFFFFFFFF"), (1, ""))
+        self.assertEqual((self.box.clock, self.box.inputs[0].usage), (TOP64, 5))
+        for content in ("0700000000000000", "07000000000000000000"):
+            self.assertEqual(self.answer(content), 10)
+        self.assertEqual(self.box.clock, TOP64)
+
+    def test_commands(self):
+        for content, relays in (("0A010003", "00000100"), ("0A010003", "00000100"), ("0A030003", "00000000"),
+                                ("0A030003", "00000100"), ("0A020003", "00000000")):
+            self.assertEqual(self.content(content), (1, ""))
+            self.assertEqual(self.relays(), relays)
+        self.box.level(3, 1)
+        self.answer("0A010003")
+        self.box.pass_(9)
+        for content, left in (("0A050003", (0, 9, 9)), ("0A080003", (0, 0, 9)), ("0A090003", (0, 0, 0))):
+            self.assertEqual(self.content(content), (1, ""))
+            self.assertEqual((self.count(3), self.box.inputs[2].usage, self.box.relays[2].usage), left)
+
+    def test_bad_commands(self):
+        """'Actions 4, 6, 7: 11', before the length; '4 bytes in all'; then the channel."""
+        for content in ("0A04", "0A06", "0A07", "0A00", "0A0B", "0AFF", "0A040001", "0A06000100000001", "0A07FFFF00000001",
+                        "0A010000", "0A010009", "0A010101", "0A01FFFF"):
+            self.assertEqual(self.answer(content), 11, content)
+        for content in ("0A", "0A01", "0A0100", "0A01000100", "0A010000FF", "0A0AFF", "0A0A00FF00FF"):
+            self.assertEqual(self.answer(content), 10, content)
+        self.assertEqual(self.relays(), "00000000")
+
+    def test_read_devices(self):
+        """'In the order asked'; 'an unknown ID has length 0; a repeated one is reported again'."""
+        self.power(setpoint1=1, usage_setpoint=2, switch=1)
+        self.write((INPUT_IDS[0], "0200000001"))
+        self.box.level(1, 1)
+        self.answer("0A010001")
+        self.box.pass_(3)
+        block = "0101" + "00000002" + "0100" + "0000000000000003" + "01"
+        relay = "01" + "0000000000000003" + "00"
+        self.assertEqual((len(block) // 2, len(relay) // 2), (17, 10))
+        one, two, none = "00000000000001FF", "00000000000101FF", "00000000000009FF"
+        self.assertEqual(self.content("150004" + two + none + one + two),
+                         (1, "160004" + two + "000A" + relay + none + "0000" + one + "0011" + block + two + "000A" + relay))
+        self.assertEqual(self.content("150000"), (1, "160000"))
+        for content in ("15", "1500", "150001", "150000" + one, "150001" + one + "00", "150001" + one[2:], "150002" + one):
+            self.assertEqual(self.answer(content), 10, content)
+
+    def test_longest_reply(self):
+        """'The longest reply is 3,437.'"""
+        answer, taken, reply = self.box.bytes_(0, 4096, traces.framed(b"\x15\x00\x7F" + field(INPUT_IDS[0], 8) * 127))
+        self.assertEqual((answer, taken, len(reply)), (1, 5 + 3 + 127 * 8, 3437))
+
+    def test_write_devices(self):
+        """'One fails alone, changing nothing'; '24, then the number written'."""
+        self.assertEqual(self.write((INPUT_IDS[0], "0280000000"), (RELAY_IDS[1], "0101"), (INPUT_IDS[1], "0800000001"),
+                                    (INPUT_IDS[2], "0200000005")), 3)
+        self.assertEqual([self.count(k) for k in (1, 2, 3)], [0x80000000, 0, 5])
+        self.assertEqual(self.relays(), "00000010")
+        self.assertEqual(self.content("170000"), (1, "180000"))
+
+    def test_write_must_fit(self):
+        """'The whole message must fit exactly, else 10 and nothing is written.'"""
+        entry = "00000000000101FF00020101"
+        for content in ("17", "1700", "170001", "170000" + entry, "170001" + entry + "00", "170002" + entry,
+                        "170001" + entry[:-2], "170002" + entry + entry[:-2], "170002" + entry + "00000000000101FFFFFF0101"):
+            self.assertEqual(self.answer(content), 10, content)
+        self.assertEqual(self.relays(), "00000000")
+        self.assertEqual(self.answer("170001" + entry), 1)
+        self.assertEqual(self.relays(), "00000001")
+
+    def test_input_entries(self):
+        for block, written in (("", 0), ("00", 1), ("01", 1), ("02", 0), ("03", 0), ("04", 1), ("05", 1), ("06", 0), ("07", 0),
+                               ("08", 0), ("80", 0), ("FF", 0), ("0200", 0), ("020000", 0), ("02000000", 0), ("0000000001", 1),
+                               ("0100000001", 1), ("0700000001", 1), ("0800000001", 0), ("0A00000001", 0), ("020000000100", 0)):
+            self.assertEqual(self.write((INPUT_IDS[4], block)), written, block)
+
+    def test_input_flags(self):
+        for flags, left in (("00", (9, 9)), ("01", (0, 9)), ("02", (5, 9)), ("03", (5, 9)), ("04", (9, 0)), ("05", (0, 0)),
+                            ("06", (5, 0)), ("07", (5, 0)), ("0C", (9, 9))):
+            inp = self.box.inputs[4]
+            inp.count = inp.usage = 9
+            self.write((INPUT_IDS[4], flags + "00000005"))
+            self.assertEqual((inp.count, inp.usage), left, flags)
+
+    def test_relay_entries(self):
+        """A state byte whose flag is not set is read and not used."""
+        relay = self.box.relays[7]
+        for block, written, left in (("", 0, (0, 9)), ("00", 1, (0, 9)), ("01", 0, (0, 9)), ("02", 1, (0, 0)), ("03", 0, (0, 9)),
+                                     ("0002", 1, (0, 9)), ("0001", 1, (0, 9)), ("0101", 1, (1, 9)), ("0102", 0, (0, 9)),
+                                     ("01FF", 0, (0, 9)), ("02FF", 1, (0, 0)), ("0301", 1, (1, 0)), ("0302", 0, (0, 9)),
+                                     ("04", 0, (0, 9)), ("0501", 0, (0, 9)), ("8101", 0, (0, 9)), ("010100", 0, (0, 9))):
+            relay.state, relay.usage = 0, 9
+            self.assertEqual(self.write((RELAY_IDS[7], block)), written, block)
+            self.assertEqual((relay.state, relay.usage), left, block)
+
+    def test_enumerate_devices(self):
+        """'Answer 27: flags, count, IDs, inputs before relays, rising.  Flag 2 alone finds none.'"""
+        ids = "".join(f"{0x01FF + 0x100 * k:016X}" for k in range(8)) + "".join(f"{0x0101FF + 0x100 * k:016X}" for k in range(8))
+        self.assertEqual(self.content("1A01"), (1, "1B010010" + ids))
+        self.assertEqual(self.content("1A02"), (1, "1B020000"))
+        self.assertEqual(self.content("1A03"), (1, "1B030010" + ids))
+        for content in ("1A00", "1A04", "1A81", "1AFF"):
+            self.assertEqual(self.answer(content), 11)
+
+
+class Tools(unittest.TestCase):
+    def test_same_seed_same_trace(self):
+        self.assertEqual(traces.make("a", 300), traces.make("a", 300))
+        self.assertNotEqual(traces.make("a", 300).lines, traces.make("b", 300).lines)
+
+    def test_trace_ends_with_state(self):
+        trace = traces.make("a", 300)
+        self.assertEqual(trace.lines[-1], "state")
+        self.assertGreaterEqual(trace.events, 300)
+        self.assertEqual(hold.expected_of(trace.lines), trace.printed)
+
+    def test_first_difference(self):
+        self.assertIsNone(hold.first_difference(["1", "2"], ["1", "2"]))
+        self.assertEqual(hold.first_difference(["1", "2"], ["1", "3"]), 1)
+        self.assertEqual(hold.first_difference(["1", "2"], ["1"]), 1)
+        self.assertEqual(hold.first_difference(["1"], ["1", "2"]), 1)
+
+    def test_shrinker(self):
+        """A fault that three of many lines show is shrunk to those three."""
+        class Wraps(Box):
+            def one_more(self, count):
+                return count + 1 & TOP32
+
+        def play(lines):
+            box = Wraps()
+            return [box.line(line) for line in lines]
+
+        for index in range(20):
+            trace = traces.make(f"shrink/{index}", 1000)
+            if play(trace.lines) != trace.printed:
+                break
+        lines = hold.Shrinker(play, 3000).shrink(trace.lines)
+        self.assertNotEqual(play(lines), hold.expected_of(lines))
+        self.assertLessEqual(len(lines), 6, lines)
+
+
+if __name__ == "__main__":
+    unittest.main()
