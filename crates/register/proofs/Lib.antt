@@ -1,0 +1,14 @@
+pub mod Cases
+pub mod Touching
+pub mod Numbers
+pub mod Halves
+pub mod BoxCalls
+pub mod BoxLawful
+pub mod BoxDemand
+pub mod Laws
+pub mod UniqueTables
+pub mod UniquePlain
+pub mod UniqueBoard
+pub mod Starred
+pub mod Empty
+pub mod BoxContracts

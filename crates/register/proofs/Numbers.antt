@@ -1,0 +1,105 @@
+-- What a message's answer number says: 1 where it is served; else nothing changed, nothing is sent, and the number is none of 0, 3 and 4.
+-- Assumes nothing.
+use mathlib.Core.Path.{_≡_, refl}
+use mathlib.Core.Logic.{⊎-elim}
+use mathlib.Core.Bool.{Bool, true, false, cond, _||_}
+use mathlib.Core.List.{List}
+use Prim.Native.Nat.{ℕ}
+use lib.Dec.{eqb, ltb}
+use Rattle.framing.specs.Cut.{Got, keepAlive, stray, tooLong, frame}
+use Rattle.tables.specs.declared.Input.{Input}
+use Rattle.tables.specs.declared.Relay.{Relay}
+use Rattle.tables.specs.declared.Tables.{Tables}
+use Rattle.tables.specs.Held.{isChannel}
+use Rattle.tables.specs.Answers as tables
+use Rattle.tables.specs.Answers.{onInput, onRelay}
+use Rattle.tables.specs.Levels.{told, levelOf}
+use Rattle.tables.specs.Commands.{blockOf}
+use Rattle.orders.specs.declared.Order.{Order}
+use Rattle.orders.specs.declared.Order.the-variants.{Refused, Clock, Monitor, Usage, MonitorOff, MonitorOn, SetClock, Close, Open, Toggle, ClearCount, ClearInputUsage, ClearRelayUsage, Block, Read, Write, Enumerate}
+use Rattle.orders.specs.Orders.{orderOf}
+use Rattle.orders.proofs.Orders.{Refusal, refusals}
+use Rattle.plain.specs.declared.Plain.{Plain}
+use Rattle.plain.specs.Lines.{lineAt}
+use Rattle.plain.specs.Marks.{marked}
+use Rattle.plain.specs.Events.{Did, refused, changedTo, leveled, sealing}
+use Rattle.plain.specs.Obeying.{monitorSet, clockTold, obeyed}
+use Rattle.plain.specs.Serving.{servedContent, servedMessage}
+use Rattle.register.proofs.Cases.{frame-cases}
+
+-- a number that answers a message: not 0, which waits, and not 3 or 4, which refuse a call
+abbrev pub Answering : ℕ → Type 0
+Answering n = (eqb n 0 ≡ false) × (eqb n 3 || eqb n 4 ≡ false)
+
+-- served, or refused whole
+pub data Judged (p : Plain) : Did → Type 0 where
+  serves : {d : Did} → d .answer ≡ 1 → Judged p d
+  refuses : (n : ℕ) → Answering n → Judged p (refused n p)
+
+refusal-answers : (n : ℕ) → Refusal n → Answering n
+refusal-answers n r =
+    ⊎-elim (λ (e : n ≡ 8). rw e (refl, refl))
+    (λ r. ⊎-elim (λ (e : n ≡ 9). rw e (refl, refl)) (λ r. ⊎-elim (λ (e : n ≡ 10). rw e (refl, refl)) (λ (e : n ≡ 11). rw e (refl, refl)) r) r) r
+
+module _ (p : Plain) where
+  -- a change of the tables
+  asked : (channel changed : Bool) (after : Tables) → Judged p (changedTo (cond channel (tables.served changed after) (tables.refused (p .tables))) p)
+  unfolding marked
+  asked true changed after = serves refl
+  asked false changed after = refuses 11 (refl, refl)
+
+  on-input : (f : Input → Input) (k : ℕ) → Judged p (changedTo (onInput f k (p .tables)) p)
+  unfolding onInput
+  on-input f k = asked (isChannel k) _ _
+
+  on-relay : (f : Relay → Relay) (k : ℕ) → Judged p (changedTo (onRelay f k (p .tables)) p)
+  unfolding onRelay
+  on-relay f k = asked (isChannel k) _ _
+
+  pub level-judged : (k v : ℕ) → Judged p (leveled k v p)
+  unfolding leveled levelOf marked
+  level-judged k v = go (ltb 1 v)
+    where
+      go : (t : Bool) → Judged p (changedTo (cond t (tables.refused (p .tables)) (onInput (told (eqb v 1)) k (p .tables))) p)
+      go true = refuses 11 (refl, refl)
+      go false = on-input (told (eqb v 1)) k
+
+  module _ (c : ℕ) (s : List ℕ) where
+    obeyed-judged : (o : Order) → ((n : ℕ) → o ≡ Refused n → Refusal n) → Judged p (obeyed c s o p)
+    unfolding obeyed monitorSet clockTold blockOf
+    obeyed-judged (Refused n) r = refuses n (refusal-answers n (r n refl))
+    obeyed-judged Clock r = serves refl
+    obeyed-judged Monitor r = serves refl
+    obeyed-judged Usage r = serves refl
+    obeyed-judged MonitorOff r = serves refl
+    obeyed-judged MonitorOn r = serves refl
+    obeyed-judged (SetClock v) r = serves refl
+    obeyed-judged (Close k) r = on-relay _ k
+    obeyed-judged (Open k) r = on-relay _ k
+    obeyed-judged (Toggle k) r = on-relay _ k
+    obeyed-judged (ClearCount k) r = on-input _ k
+    obeyed-judged (ClearInputUsage k) r = on-input _ k
+    obeyed-judged (ClearRelayUsage k) r = on-relay _ k
+    obeyed-judged (Block mask state) r = serves refl
+    obeyed-judged (Read n) r = serves refl
+    obeyed-judged (Write n) r = serves refl
+    obeyed-judged (Enumerate flags) r = serves refl
+
+  pub message-judged : (c : ℕ) (g : Got) → Judged p (servedMessage c g p)
+  unfolding servedMessage servedContent
+  message-judged c keepAlive = refuses 2 (refl, refl)
+  message-judged c stray = refuses 5 (refl, refl)
+  message-judged c tooLong = refuses 6 (refl, refl)
+  message-judged c (frame sum s) =
+      frame-cases c sum s p (Judged p)
+      (sealed (obeyed c s (orderOf s (lineAt c p .rank)) p) (obeyed-judged c s (orderOf s (lineAt c p .rank)) (λ n e. refusals s (lineAt c p .rank) e)))
+      (refuses 7 (refl, refl))
+    where
+      sealed : (d : Did) → Judged p d → Judged p (sealing d)
+      sealed d (serves e) = serves e
+      sealed d (refuses n a) = refuses n a
+
+-- so a message is always answered by a number of its own
+pub judged-answers : (p : Plain) (d : Did) → Judged p d → Answering (d .answer)
+judged-answers p d (serves e) = rw e (refl, refl)
+judged-answers p d (refuses n a) = a

@@ -1,0 +1,39 @@
+-- For one input, two answers that a contract of the crate plain allows are equal, and so is what is left in each lent slice. Assumes nothing.
+use mathlib.Core.Path.{_≡_, sym, _∙_}
+use mathlib.Core.List.{List}
+use Prim.Native.Nat.{ℕ}
+use denote.Ref.{now}
+use Rattle.plain.specs.declared.Served.{Served}
+use Rattle.plain.specs.Events.{Did}
+use Rattle.plain.specs.Calls.{Does}
+use Rattle.plain.proofs.is_open.Reads as is-open
+use Rattle.plain.proofs.level.Reads as level
+use Rattle.plain.proofs.pass.Reads as pass
+use Rattle.plain.proofs.connect.Reads as connect
+use Rattle.plain.proofs.close.Reads as close
+use Rattle.plain.proofs.collect.Reads as collect
+use Rattle.plain.proofs.serve.Reads as serve
+
+same : {d : Did} {o₀ o o′ : List ℕ} {r r′ : Served} → Does d o₀ o r → Does d o₀ o′ r′ → (r ≡ r′) × (o ≡ o′)
+same p q = (p .gives ∙ sym (q .gives), p .leaves ∙ sym (q .leaves))
+
+pub unique-plain-is-open : (κs : _) (a : _) (r r′ : _) (s s′ : _) → is-open.Post κs a r s → is-open.Post κs a r′ s′ → r ≡ r′
+unique-plain-is-open κs a r r′ s s′ p q = p ∙ sym q
+
+pub unique-plain-level : (κs : _) (a : _) (r r′ : _) (s s′ : _) → level.Post κs a r s → level.Post κs a r′ s′ → r ≡ r′
+unique-plain-level κs a r r′ s s′ p q = p ∙ sym q
+
+pub unique-plain-pass : (κs : _) (a : _) (r r′ : _) (s s′ : _) → pass.Post κs a r s → pass.Post κs a r′ s′ → r ≡ r′
+unique-plain-pass κs a r r′ s s′ p q = p ∙ sym q
+
+pub unique-plain-connect : (κs : _) (a : _) (r r′ : _) (s s′ : _) → connect.Post κs a r s → connect.Post κs a r′ s′ → r ≡ r′
+unique-plain-connect κs a r r′ s s′ p q = p ∙ sym q
+
+pub unique-plain-close : (κs : _) (a : _) (r r′ : _) (s s′ : _) → close.Post κs a r s → close.Post κs a r′ s′ → r ≡ r′
+unique-plain-close κs a r r′ s s′ p q = p ∙ sym q
+
+pub unique-plain-collect : (κs : _) (a : _) (r r′ : _) (s s′ : _) → collect.Post κs a r s → collect.Post κs a r′ s′ → (r ≡ r′) × (now (s .1 .1 .0) ≡ now (s′ .1 .1 .0))
+unique-plain-collect κs a r r′ s s′ p q = same p q
+
+pub unique-plain-serve : (κs : _) (a : _) (r r′ : _) (s s′ : _) → serve.Post κs a r s → serve.Post κs a r′ s′ → (r ≡ r′) × (now (s .1 .1 .1 .0) ≡ now (s′ .1 .1 .1 .0))
+unique-plain-serve κs a r r′ s s′ p q = same p q

@@ -1,0 +1,30 @@
+-- The four empty versions that 01 has tried, as properties of any machine that answers the box's calls. Assumes nothing.
+use mathlib.Core.Path.{_≡_}
+use mathlib.Core.List.{List, []}
+use Prim.Native.Nat.{ℕ, _≤_}
+use Rattle.plain.specs.declared.Plain.{Plain}
+use Rattle.demand.specs.Demand.{Said, waits, refused, did, Call, Machine, final}
+use Rattle.register.specs.Box.{Reply, refusing, served}
+use Rattle.register.specs.Starred.{after}
+
+-- the reply that an answer shows; where nothing ended it is number 0 without bytes
+abbrev pub shown : Said Reply → Reply
+shown waits = refusing 0
+shown (refused r) = r
+shown (did r) = r
+
+-- what the plain machine holds after power-up, with connection 0 opened at rank 2
+abbrev pub opened : Plain
+opened = after [] .board .plain
+
+module _ (M : Machine served) (x : M .State) where
+  -- "one refusing everything": each call from here on has one of the numbers from 3 on
+  abbrev pub RefusesAll : Type 0
+  RefusesAll = (k : Call served) → 3 ≤ shown (M .call x k .1 .said) .number
+
+  -- "one replying the same always": the same number, or the same bytes, whatever the calls are
+  abbrev pub SameNumber : ℕ → Type 0
+  SameNumber n = (before : List (Call served)) (k : Call served) → shown (M .call (final served M x before) k .1 .said) .number ≡ n
+
+  abbrev pub SameBytes : List ℕ → Type 0
+  SameBytes bs = (before : List (Call served)) (k : Call served) → shown (M .call (final served M x before) k .1 .said) .sent ≡ bs

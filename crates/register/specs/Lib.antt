@@ -1,0 +1,4 @@
+pub mod Box
+pub mod Laws
+pub mod Starred
+pub mod Empty

@@ -1,0 +1,105 @@
+-- The starred cases of document 01, "Both sides of each edge", as one table: what the box does, through its calls, and what 01 owes.
+-- Assumes nothing.
+use mathlib.Core.Bool.{false, cond}
+use mathlib.Core.List.{List, [], _∷_, _++_}
+use Prim.Native.Nat.{ℕ, _+_, _*_}
+use lib.ListN.{length, getD, replicate}
+use Rattle.tables.specs.declared.Relay.{Relay}
+use Rattle.tables.specs.Held.{inputAt}
+use Rattle.plain.specs.Lines.{lineAt}
+use Rattle.board.specs.declared.Settings.{Settings}
+use Rattle.demand.specs.Demand.{Call, bytes, other}
+use Rattle.register.specs.Box.{level, connect, collect, Held, served, effectOf, ends}
+
+-- every input's first count setpoint is 100; no other setpoint and no alarm switch is set
+abbrev pub settings : Settings
+settings = record { inputs = replicate 8 (record { setpointOne = 100; setpointTwo = 0; usageSetpoint = 0; alarm = false }); relays = replicate 8 0 }
+
+-- a whole frame with 0xFFFF on connection 0; the contents here are shorter than 256 bytes
+abbrev pub sends : List ℕ → Call served
+sends content = bytes 0 4096 (0x01 ∷ 0x00 ∷ length content ∷ 0xFF ∷ 0xFF ∷ content)
+
+-- input 1 told its level, and Monitor collected on connection 0
+abbrev pub told : ℕ → Call served
+told v = other (level 1 v)
+
+abbrev pub collects : Call served
+collects = other (collect 0 4096)
+
+-- "10 Command"
+abbrev pub blockWith : ℕ → ℕ → Call served
+blockWith mask state = sends (0x0A ∷ 0x0A ∷ mask ∷ state ∷ [])
+
+abbrev pub toggles : ℕ → Call served
+toggles channel = sends (0x0A ∷ 0x03 ∷ 0x00 ∷ channel ∷ [])
+
+-- "21 ReadDevices", of input 1
+abbrev pub readsInput : Call served
+readsInput = sends (0x15 ∷ 0x00 ∷ 0x01 ∷ 0 ∷ 0 ∷ 0 ∷ 0 ∷ 0 ∷ 0 ∷ 0x01 ∷ 0xFF ∷ [])
+
+-- "23 WriteDevices", of input 1: flags, and the count's four bytes
+abbrev pub writesInput : ℕ → List ℕ → Call served
+writesInput flags count = sends ((0x17 ∷ 0x00 ∷ 0x01 ∷ 0 ∷ 0 ∷ 0 ∷ 0 ∷ 0 ∷ 0 ∷ 0x01 ∷ 0xFF ∷ 0x00 ∷ 0x05 ∷ flags ∷ []) ++ count)
+
+-- the box after power-up, connection 0 opened at rank 2, and these calls
+abbrev pub after : List (Call served) → Held
+after calls = ends settings (replicate 4096 0) (other (connect 0 2) ∷ calls)
+
+-- what is asked of it: input 1's count, the relays (lowest bit channel 1), and whether Monitor is due on connection 0 (1) or not (0)
+abbrev pub count : List (Call served) → ℕ
+count calls = inputAt 1 (after calls .board .plain .tables) .count
+
+abbrev pub bits : List Relay → ℕ
+bits [] = 0
+bits (r ∷ rs) = cond (r .closed) 1 0 + 2 * bits rs
+
+abbrev pub relays : List (Call served) → ℕ
+relays calls = bits (after calls .board .plain .tables .relays)
+
+abbrev pub due : List (Call served) → ℕ
+due calls = cond (lineAt 0 (after calls .board .plain) .due) 1 0
+
+-- the answer number of one call more, and byte i of its reply
+abbrev pub number : List (Call served) → Call served → ℕ
+number calls k = effectOf (after calls) k .did .answer
+
+abbrev pub replyByte : List (Call served) → Call served → ℕ → ℕ
+replyByte calls k i = getD (effectOf (after calls) k .did .reply) i 0
+
+-- a row of the table: what the box does, and what 01 says
+pub record Row : Type 0 where
+  pub does : List ℕ
+  pub owes : List ℕ
+
+abbrev pub row : List ℕ → List ℕ → Row
+row does owes = record { does = does; owes = owes }
+
+-- THE STARRED CASES, in 01's order
+abbrev pub starredCases : List Row
+starredCases =
+    -- "Count 4294967294, a rise: 4294967295. Then another: the same."
+    row (count (writesInput 2 (0xFF ∷ 0xFF ∷ 0xFF ∷ 0xFE ∷ []) ∷ []) ∷ []) (4294967294 ∷ []) ∷
+    row (count (writesInput 2 (0xFF ∷ 0xFF ∷ 0xFF ∷ 0xFE ∷ []) ∷ told 1 ∷ []) ∷ []) (4294967295 ∷ []) ∷
+    row (count (writesInput 2 (0xFF ∷ 0xFF ∷ 0xFF ∷ 0xFE ∷ []) ∷ told 1 ∷ told 0 ∷ told 1 ∷ []) ∷ []) (4294967295 ∷ []) ∷
+    -- "Input on told on: count and due marks unchanged": not due stays so, and due stays so
+    row (count (told 1 ∷ collects ∷ []) ∷ due (told 1 ∷ collects ∷ []) ∷ []) (1 ∷ 0 ∷ []) ∷
+    row (number (told 1 ∷ collects ∷ []) (told 1) ∷ count (told 1 ∷ collects ∷ told 1 ∷ []) ∷ due (told 1 ∷ collects ∷ told 1 ∷ []) ∷ []) (1 ∷ 1 ∷ 0 ∷ []) ∷
+    row (count (told 1 ∷ told 1 ∷ []) ∷ due (told 1 ∷ told 1 ∷ []) ∷ []) (1 ∷ 1 ∷ []) ∷
+    -- "Relays 00000101, mask 00000110, state 00000010: 00000011."
+    row (relays (blockWith 5 5 ∷ []) ∷ relays (blockWith 5 5 ∷ blockWith 6 2 ∷ []) ∷ []) (5 ∷ 3 ∷ []) ∷
+    -- "Mask 0: answer 1, no due mark", whatever the state byte is
+    row (number (collects ∷ []) (blockWith 0 255) ∷ due (collects ∷ blockWith 0 255 ∷ []) ∷ relays (blockWith 0 255 ∷ []) ∷ []) (1 ∷ 0 ∷ 0 ∷ []) ∷
+    -- "Channel 8 toggles; channel 9 and channel 0: 11."
+    row (number [] (toggles 8) ∷ relays (toggles 8 ∷ []) ∷ relays (toggles 8 ∷ toggles 8 ∷ []) ∷ []) (1 ∷ 128 ∷ 0 ∷ []) ∷
+    row (number [] (toggles 9) ∷ relays (toggles 9 ∷ []) ∷ []) (11 ∷ 0 ∷ []) ∷
+    row (number [] (toggles 0) ∷ relays (toggles 0 ∷ []) ∷ []) (11 ∷ 0 ∷ []) ∷
+    -- "N = 0 with 0xFFFF: 8."
+    row (number [] (sends []) ∷ []) (8 ∷ []) ∷
+    -- "Request 4 with interval, 7 bytes: 1; 6 bytes: 10."
+    row (number [] (sends (0x05 ∷ 0x00 ∷ 0x04 ∷ 0 ∷ 0 ∷ 0 ∷ 1 ∷ [])) ∷ []) (1 ∷ []) ∷
+    row (number [] (sends (0x05 ∷ 0x00 ∷ 0x04 ∷ 0 ∷ 0 ∷ 1 ∷ [])) ∷ []) (10 ∷ []) ∷
+    -- "Write flags 3, count 7: 7."
+    row (number [] (writesInput 3 (0 ∷ 0 ∷ 0 ∷ 7 ∷ [])) ∷ count (writesInput 3 (0 ∷ 0 ∷ 0 ∷ 7 ∷ []) ∷ []) ∷ []) (1 ∷ 7 ∷ []) ∷
+    -- "Setpoint 100: count 100 no alarm, 101 alarm": byte 24 of a read block's reply, and byte 28 of a Monitor message, is the first count alarm
+    row (replyByte (writesInput 2 (0 ∷ 0 ∷ 0 ∷ 100 ∷ []) ∷ []) readsInput 24 ∷ replyByte (writesInput 2 (0 ∷ 0 ∷ 0 ∷ 100 ∷ []) ∷ []) collects 28 ∷ []) (0 ∷ 0 ∷ []) ∷
+    row (replyByte (writesInput 2 (0 ∷ 0 ∷ 0 ∷ 101 ∷ []) ∷ []) readsInput 24 ∷ replyByte (writesInput 2 (0 ∷ 0 ∷ 0 ∷ 101 ∷ []) ∷ []) collects 28 ∷ []) (1 ∷ 1 ∷ []) ∷ []
