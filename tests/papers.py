@@ -64,7 +64,7 @@ for label in re.findall(r"(?<!\*)\*([a-z][a-z0-9_]*)\*(?!\*)", trace):
         wrong.append("TRACE: no edit %s" % label)
 
 contracts = read("docs/CONTRACTS.md")
-sections = dict(re.findall(r"(?ms)^## (\w+)\n(.*?)(?=^## |\Z)", contracts))
+sections = dict(re.findall(r"(?ms)^## ([a-z]+)\n(.*?)(?=^## |\Z)", contracts))
 for crate in crates:
     text = sections.get(crate, "")
     named = set(re.findall(r"`([a-z][a-z0-9_]*)`", text))
