@@ -8,15 +8,14 @@
 --     box-untaken        what is not taken of a piece has no part in its answer
 -- Assumes nothing.
 use mathlib.Core.Path.{_≡_, refl}
-use mathlib.Core.Bool.{false, and-false}
 use mathlib.Core.List.{List, [], map}
 use mathlib.Core.Option.{none}
 use Prim.Native.Nat.{ℕ, zero, suc}
-use lib.Dec.{ltb}
 use lib.ListN.{length, getD, take, replicate}
-use Rattle.plain.specs.Lines.{shutLine, isOpen}
+use Rattle.framing.specs.Reading.{start}
 use Rattle.board.specs.declared.Settings.{Settings}
 use Rattle.board.specs.PowerUp.{poweredUp}
+use Rattle.board.specs.Held.{halfAt}
 use Rattle.demand.specs.Plain.{messagesOf}
 use Rattle.demand.specs.Demand.{Call, bytes, feedsTo, Machine, schedule, log, final, trace, Demand3}
 use Rattle.demand.specs.Senders.{without, Steady, wires, quiet, OffersFirst, AllHeard, remaining, Handed, uncut, handing}
@@ -28,15 +27,15 @@ use Rattle.register.specs.Box.{served, Held, box, atPowerUp, refusalOf, 
 use Rattle.register.proofs.Touching.{touched-open, message-touches}
 use Rattle.register.proofs.BoxLawful.{Sound, only-open, box-meets}
 
--- "all connections shut"
-blank-at : {A : Type 0} (n : ℕ) (x : A) (c : ℕ) → getD (replicate n x) c x ≡ x
+-- "all numbers are 0": nothing is half read
+pub blank-at : {A : Type 0} (n : ℕ) (x : A) (c : ℕ) → getD (replicate n x) c x ≡ x
 blank-at zero x c = refl
 blank-at (suc n) x zero = refl
 blank-at (suc n) x (suc c) = blank-at n x c
 
-all-shut : (s : Settings) (c : ℕ) → isOpen c (poweredUp s .plain .lines) ≡ false
-unfolding poweredUp isOpen
-all-shut s c = rw (blank-at 4 shutLine c) (and-false (ltb c 4))
+nothing-half : (s : Settings) (c : ℕ) → halfAt c (poweredUp s) ≡ start
+unfolding poweredUp
+nothing-half s c = blank-at 4 start c
 
 -- only events open and shut connections
 pub box-steady : Steady served
@@ -53,7 +52,7 @@ module _ (s : Settings) (rooms : List ℕ) (long : length rooms ≡ 4096) where
   sound-up = record { four-lines = refl; four-halves = refl; four-rooms = long }
 
   pub box-demand-3 : (calls : List (Call served)) → Demand3 served box (atPowerUp s rooms) calls
-  box-demand-3 = box-meets (atPowerUp s rooms) sound-up (all-shut s)
+  box-demand-3 = box-meets (atPowerUp s rooms) sound-up (λ c o. nothing-half s c)
 
   pub box-senders : (calls : List (Call served)) → OffersFirst served (quiet served (onlooker s rooms)) (run s rooms calls)
       → (c : ℕ) → AllHeard served (wires served (quiet served (onlooker s rooms)) (run s rooms calls)) c

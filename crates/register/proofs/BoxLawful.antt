@@ -27,7 +27,7 @@ use Rattle.demand.specs.Plain.{OnlyOpen}
 use Rattle.demand.specs.Demand.{refused, did, Call, bytes, other, feedsTo, answer, Meets}
 use Rattle.demand.specs.Lawful as lawful-spec
 use Rattle.demand.specs.Lawful.{Lawful, outside}
-use Rattle.demand.proofs.Meeting.{demand-3-shut}
+use Rattle.demand.proofs.Meeting.{demand-3}
 use Rattle.register.specs.Box.{Event, level, pass, connect, close, collect, Reply, replyOf, refusing, refusalOf, served, Held, saying, boxCall, box}
 use Rattle.register.proofs.Touching.{touched-length, touched-open, level-touches, pass-touches, collect-touches}
 use Rattle.register.proofs.Numbers.{Answering, message-judged, judged-answers}
@@ -176,7 +176,7 @@ lawful =
       opens = λ x k c S. opens x k c;
     }
 
--- so demand 3 holds of it, from every state of the right lengths with all connections shut
-pub box-meets : (x : Held) → Sound x → ((c : ℕ) → openAt x c ≡ false) → Meets served box x
+-- so demand 3 holds of it, from every state of the right lengths whose open connections have nothing half read
+pub box-meets : (x : Held) → Sound x → ((c : ℕ) → openAt x c ≡ true → halfAt c (x .board) ≡ start) → Meets served box x
 unfolding lawful
-box-meets = demand-3-shut served box lawful
+box-meets = demand-3 served box lawful

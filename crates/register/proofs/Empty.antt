@@ -6,6 +6,7 @@
 --     shut-out-starving       takes no bytes
 --     shut-out-frozen         takes bytes and leaves the tables as they are
 --     shut-out-nodding        serves only the first message and then nods
+--     meets-opened            the box itself meets it from where these are tried, so that nothing is shut out for want of a machine
 --     shut-out-inventing      invents a number, a length, bytes taken or a count: in anything it shows it differs from the box
 -- Assumes nothing.
 use mathlib.Core.Path.{_≡_, refl, sym, ap, _∙_}
@@ -16,6 +17,7 @@ use native.Mathlib.Omega.{arith}
 use lib.ListN.{length, getD}
 use Rattle.words.specs.Words.{fits, numberAt}
 use Rattle.framing.specs.Cut.{need, whole, cuts, messages, seen}
+use Rattle.framing.specs.Reading.{start}
 use Rattle.tables.specs.Answers.{onRelay}
 use Rattle.orders.specs.Layouts.{onChannel, judgeCommand}
 use Rattle.orders.specs.Orders.{commandOf, orderOf}
@@ -27,16 +29,18 @@ use Rattle.plain.specs.Events.{connected, monitorSent, collected}
 use Rattle.plain.specs.Obeying.{obeyed}
 use Rattle.plain.specs.Serving.{servedContent, servedMessage}
 use Rattle.board.specs.declared.Settings.{Settings}
+use Rattle.board.specs.Held.{halfAt}
 use Rattle.board.specs.PowerUp.{poweredUp}
 use Rattle.board.specs.Calls.{connectCall}
 use Rattle.demand.specs.Demand.{Call, bytes, other, Answer, Machine, final, trace, begins, Meets}
 use Rattle.demand.proofs.Following.{answers-now, answers-after, answers-all}
 use Rattle.demand.proofs.Empty.{Waiting, Frozen, Starving, Nodding, whole-served, not-idle, not-starving, not-frozen, not-nodding}
 use Rattle.demand.proofs.Taking.{rest-none}
-use Rattle.register.specs.Box.{connect, collect, Reply, replyOf, refusalOf, served, ends, run}
-use Rattle.register.specs.Starred.{settings, bits}
+use Rattle.register.specs.Box.{connect, collect, Reply, replyOf, refusalOf, served, box, ends, run}
+use Rattle.register.specs.Starred.{settings, after, bits}
 use Rattle.register.specs.Empty.{shown, opened, RefusesAll, SameNumber, SameBytes}
-use Rattle.register.proofs.BoxDemand.{box-determined}
+use Rattle.register.proofs.BoxDemand.{blank-at, box-determined}
+use Rattle.register.proofs.BoxLawful.{Sound, box-meets}
 
 -- a toggle of relay 1, a whole message
 abbrev toggle : List ℕ
@@ -138,6 +142,18 @@ module _ (M : Machine served) (x : M .State) (D : Meets served M x) (up : M .tab
   shut-out-nodding nod N =
       not-nodding served M x D 0 4096 toggle toggle nod ready toggle-whole toggle-whole (rw first-done takes-more) N
       (rw first-done (λ e. omega (arith, ap (λ (y : Plain × Reply). bits (y .0 .tables .relays)) e, changes-once, changes-twice)))
+
+-- the box after power-up, with connection 0 opened at rank 2
+sound-opened : Sound (after [])
+unfolding poweredUp connectCall connected isOpen
+sound-opened = record { four-lines = refl; four-halves = refl; four-rooms = refl }
+
+fresh-opened : (c : ℕ) → halfAt c (after [] .board) ≡ start
+unfolding poweredUp connectCall connected isOpen
+fresh-opened c = blank-at 4 start c
+
+pub meets-opened : Meets served box (after [])
+meets-opened = box-meets (after []) sound-opened (λ c o. fresh-opened c)
 
 -- whatever a machine shows that the box does not: an answer number, a reply's bytes or length, bytes taken; or a count in its tables
 pub shut-out-inventing : (s : Settings) (rooms : List ℕ) → length rooms ≡ 4096 → (M : Machine served) (x : M .State) → M .tables x ≡ poweredUp s .plain

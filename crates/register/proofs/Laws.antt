@@ -7,7 +7,7 @@
 --     others-kept          a call on one connection leaves the other connections' halves, rooms and lines, due marks aside
 -- Assumes nothing.
 use mathlib.Core.Path.{_≡_, refl, sym, ap, _∙_}
-use mathlib.Core.Bool.{Bool, true, false, true≢false, cond, _||_}
+use mathlib.Core.Bool.{Bool, true, false, true≢false, cond}
 use mathlib.Core.List.{List, []}
 use mathlib.Core.Option.{Option, none, some}
 use Prim.Native.Nat.{ℕ, zero, suc, _≤_}
@@ -38,7 +38,7 @@ use Rattle.board.specs.declared.Board.{Board}
 use Rattle.board.specs.Held.{boardOf}
 use Rattle.board.specs.Calls.{doneOf, dropped, answered, fed, levelCall, passCall, connectCall, closeCall, collectCall, bytesCall}
 use Rattle.demand.specs.Demand.{Call, bytes, other}
-use Rattle.register.specs.Box.{Event, level, pass, connect, close, collect, happens, served, Held, held, eventCall, effectOf, boxCall}
+use Rattle.register.specs.Box.{Event, level, pass, connect, close, collect, happens, served, beforeBytes, Held, held, eventCall, effectOf, boxCall}
 use Rattle.register.specs.Laws.{TypeSeven, ButClock, Untouched, eventOn, callOn, Kept}
 use Rattle.register.proofs.Cases.{frame-cases, bytes-cases, connect-cases, close-cases, collect-cases}
 use Rattle.register.proofs.Touching.{touched-other, level-touches, pass-touches, collect-touches}
@@ -167,16 +167,13 @@ pub refused-event : (x : Held) (e : Event) → 3 ≤ effectOf x (other e) .did .
 refused-event x e h = λ i. held (boardOf (refused-untouched x (other e) h .plain i) (halves-stay e (x .board) h i)) (x .rooms)
 
 -- a message's number, or that nothing ended, is neither 3 nor 4
-not-refused : (p : Plain) (c : ℕ) (o : Option Got) → eqb (answered c o p .answer) 3 || eqb (answered c o p .answer) 4 ≡ false
+not-refused : (p : Plain) (c : ℕ) (o : Option Got) → beforeBytes (answered c o p .answer) ≡ false
 not-refused p c none = refl
 not-refused p c (some g) = judged-answers p (servedMessage c g p) (message-judged p c g) .1
 
-abbrev threeOrFour : ℕ → Bool
-threeOrFour n = eqb n 3 || eqb n 4
-
-pub refused-piece : (x : Held) (c room : ℕ) (piece : List ℕ) → threeOrFour (effectOf x (bytes c room piece) .did .answer) ≡ true → boxCall x (bytes c room piece) .0 ≡ x
+pub refused-piece : (x : Held) (c room : ℕ) (piece : List ℕ) → beforeBytes (effectOf x (bytes c room piece) .did .answer) ≡ true → boxCall x (bytes c room piece) .0 ≡ x
 refused-piece x c room piece =
-    bytes-cases c room piece (x .board) (x .rooms) (λ e rs. threeOrFour (e .did .answer) ≡ true → held (doneOf e .board) rs ≡ x) (λ h. refl) (λ h. refl)
+    bytes-cases c room piece (x .board) (x .rooms) (λ e rs. beforeBytes (e .did .answer) ≡ true → held (doneOf e .board) rs ≡ x) (λ h. refl) (λ h. refl)
     (λ v h. absurd (true≢false (sym h ∙ not-refused (x .board .plain) c (gotOf (fed c piece (x .board) (x .rooms) .room) (fed c piece (x .board) (x .rooms) .fed .outcome)))))
 
 -- OTHERS KEPT

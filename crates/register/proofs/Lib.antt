@@ -12,3 +12,4 @@ pub mod UniqueBoard
 pub mod Starred
 pub mod Empty
 pub mod BoxContracts
+pub mod Lost

@@ -2,7 +2,7 @@
 -- Assumes nothing.
 use mathlib.Core.Path.{_≡_, refl}
 use mathlib.Core.Logic.{⊎-elim}
-use mathlib.Core.Bool.{Bool, true, false, cond, _||_}
+use mathlib.Core.Bool.{Bool, true, false, cond}
 use mathlib.Core.List.{List}
 use Prim.Native.Nat.{ℕ}
 use lib.Dec.{eqb, ltb}
@@ -25,11 +25,12 @@ use Rattle.plain.specs.Marks.{marked}
 use Rattle.plain.specs.Events.{Did, refused, changedTo, leveled, sealing}
 use Rattle.plain.specs.Obeying.{monitorSet, clockTold, obeyed}
 use Rattle.plain.specs.Serving.{servedContent, servedMessage}
+use Rattle.register.specs.Box.{beforeBytes}
 use Rattle.register.proofs.Cases.{frame-cases}
 
 -- a number that answers a message: not 0, which waits, and not 3 or 4, which refuse a call
 abbrev pub Answering : ℕ → Type 0
-Answering n = (eqb n 0 ≡ false) × (eqb n 3 || eqb n 4 ≡ false)
+Answering n = (eqb n 0 ≡ false) × (beforeBytes n ≡ false)
 
 -- served, or refused whole
 pub data Judged (p : Plain) : Did → Type 0 where

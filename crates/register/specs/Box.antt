@@ -1,6 +1,6 @@
 -- The box as demand 3 sees it: its plain machine, and its calls. Each call is made of the definitions that the entry point's contract cites.
 -- Assumes nothing.
-use mathlib.Core.Bool.{cond, _||_}
+use mathlib.Core.Bool.{Bool, cond, _||_}
 use mathlib.Core.List.{List, []}
 use mathlib.Core.Option.{Option, none, some}
 use Prim.Native.Nat.{ℕ}
@@ -93,9 +93,13 @@ eventCall (connect c rank) = connectCall c rank
 eventCall (close c) = closeCall c
 eventCall (collect c room) = collectCall c room
 
+-- 3 "connection not 0 to 3, or not open", 4 "reply buffer under 4,096": the numbers that refuse a piece before any byte
+abbrev pub beforeBytes : ℕ → Bool
+beforeBytes n = eqb n 3 || eqb n 4
+
 -- what the answer to a piece says: 0 "piece used up, nothing ended"; 3 and 4 refuse the call; every other number answers a message
 abbrev pub saying : Reply → Said Reply
-saying r = cond (eqb (r .number) 0) waits (cond (eqb (r .number) 3 || eqb (r .number) 4) (refused r) (did r))
+saying r = cond (eqb (r .number) 0) waits (cond (beforeBytes (r .number)) (refused r) (did r))
 
 -- what a call comes to, by the definition that its entry point's contract cites
 abbrev pub effectOf : Held → Call served → Effect
