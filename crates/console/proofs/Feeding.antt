@@ -1,0 +1,41 @@
+-- A line is fed: the piece that was parsed, and what the call of the box then says of the line. Assumes nothing.
+use mathlib.Core.Path.{_≡_, refl, sym, ap, _∙_}
+use mathlib.Core.List.{List}
+use mathlib.Core.Option.{some}
+use Prim.Native.Nat.{ℕ, _≤_}
+use native.Mathlib.Omega.{arith}
+use lib.ListN.{length, take}
+use lib.Seq.{take-at}
+use Rattle.laws.specs.Put.{put}
+use Rattle.laws.proofs.Put.{length-put, put-front, put-none}
+use Rattle.plain.specs.Events.{refused}
+use Rattle.board.specs.declared.Board.{Board}
+use Rattle.board.specs.declared.Done.{Done}
+use Rattle.board.specs.Calls.{Answers, still, doneOf, bytesCall, roomsAfter}
+use Rattle.console.specs.declared.Parsed.{Parsed}
+use Rattle.console.specs.declared.Parsed.the-variants.{Bytes, Bad}
+use Rattle.console.specs.Digits.{parsed, told, bytesIn}
+use Rattle.console.specs.Lines.{offered, roomsOffered, lineCall, lineRooms}
+use Rattle.console.proofs.Reading.{told-bytes, told-bad, parsed-length}
+
+-- the first n bytes of the store are what the line holds
+pub piece-parsed : (line store₀ store : List ℕ) (n : ℕ) (r : Parsed) → length store₀ ≡ 1029 → r ≡ told (parsed line) → store ≡ put 0 (bytesIn (parsed line)) store₀ → r ≡ Bytes n
+    → (n ≤ length store) × (parsed line ≡ some (take n store))
+piece-parsed line store₀ store n r l e s q =
+    let t = told-bytes (parsed line) n (sym e ∙ q) in
+    let short = parsed-length line in
+    let same : length store ≡ 1029 = ap length s ∙ length-put 0 (bytesIn (parsed line)) store₀ ∙ l in
+    let front = s ∙ put-front (bytesIn (parsed line)) store₀ (omega arith) in
+    (omega (arith, t .1), t .0 ∙ ap some (sym (ap (take n) front ∙ take-at (bytesIn (parsed line)) _ n (sym (t .1)))))
+
+module _ (line rooms : List ℕ) (b : Board) {rooms′ reply reply′ : List ℕ} {r : Done} where
+  pub line-fed : (piece : List ℕ) → length reply ≡ 4096 → parsed line ≡ some piece
+      → Answers (bytesCall 0 piece (length reply) b rooms) reply reply′ r × (rooms′ ≡ roomsAfter 0 piece (length reply) b rooms)
+      → Answers (lineCall line b rooms) reply reply′ r × (rooms′ ≡ lineRooms line b rooms)
+  unfolding lineCall lineRooms offered roomsOffered
+  line-fed piece l e a = rw e (rw l at a)
+
+pub line-bad : (line rooms : List ℕ) (b : Board) {reply : List ℕ} {r : Parsed} → r ≡ told (parsed line) → r ≡ Bad
+    → Answers (lineCall line b rooms) reply reply (doneOf (still (refused 255 (b .plain)) b)) × (rooms ≡ lineRooms line b rooms)
+unfolding lineCall lineRooms offered roomsOffered
+line-bad line rooms b {reply} e q = rw (told-bad (parsed line) (sym e ∙ q)) (record { gives = refl; leaves = sym (put-none 0 reply) }, refl)

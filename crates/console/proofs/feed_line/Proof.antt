@@ -1,0 +1,22 @@
+-- `console::feed_line`. Assumes nothing.
+use mathlib.Core.Path.{sym}
+use borrow.Author.Needs.{needs}
+use lib.Seq.{length-take-le}
+use Rattle.console.proofs.Feeding.{piece-parsed, line-fed, line-bad}
+use Rattle.console.proofs.feed_line.Statement.{statement}
+use Rattle.console.proofs.feed_line.Tie as tie
+
+pub feed-line-spec : {M : Type 1} → statement M
+feed-line-spec =
+    tie.close
+    (tie.spec
+    (λ c κs. search needs)
+    (λ c. search needs)
+    (λ c. let p = c .before .before .before .before .parse in piece-parsed _ _ _ _ _ (search needs) (p .ensures .0) (p .ensures .1) (c .before .before .p .given .1) .0)
+    (λ c. let p = c .before .before .before .before .before .parse in
+    sym (length-take-le _ _ (piece-parsed _ _ _ _ _ (search needs) (p .ensures .0) (p .ensures .1) (c .before .before .before .p .given .1) .0)))
+    (λ c κs. search needs)
+    (λ c. search needs)
+    (λ c. let p = c .before .before .before .before .before .before .before .parse in
+    line-fed _ _ _ _ (search needs) (piece-parsed _ _ _ _ _ (search needs) (p .ensures .0) (p .ensures .1) (c .before .before .before .before .before .p .given .1) .1) (c .bytes .ensures))
+    (λ c. line-bad _ _ _ (c .before .before .parse .ensures .0) (c .enum-told .given .1)))

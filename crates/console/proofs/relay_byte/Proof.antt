@@ -1,0 +1,29 @@
+-- `console::relay_byte`. Assumes nothing.
+use native.Mathlib.Omega.{arith}
+use borrow.Author.Needs.{needs}
+use Rattle.console.proofs.Showing.{Gathering, another-fits, gather-start, gather-turn, gather-done}
+use Rattle.console.proofs.relay_byte.Statement.{statement}
+use Rattle.console.proofs.relay_byte.Tie as tie
+
+abbrev Inv-loop : tie.InvT-loop
+Inv-loop relays v₀ k₀ v k = Gathering relays v k
+
+abbrev μ-loop : tie.MeasureT-loop
+μ-loop relays v₀ k₀ v k = k
+
+pub relay-byte-spec : {M : Type 1} → statement M
+relay-byte-spec =
+    tie.close
+    (tie.spec
+    Inv-loop
+    μ-loop
+    (λ c. gather-start (search needs))
+    (λ c. search needs)
+    (λ c. search needs)
+    (λ c. search needs)
+    (λ c. omega (arith, another-fits (c .before .before .loop .inv) (c .before .loop-test .taken)))
+    (λ c κs. search needs)
+    (λ c. omega (arith, another-fits (c .before .before .before .loop .inv) (c .before .before .loop-test .taken), c .closed-bit .ensures .1))
+    (λ c. search needs)
+    (λ c. gather-turn (search needs) (c .before .before .before .loop .inv) (c .before .before .loop-test .taken) (c .closed-bit .ensures .0))
+    (λ c. gather-done (search needs) (c .before .loop .inv) (c .loop-test .left)))

@@ -1,0 +1,70 @@
+-- Hexadecimal lines and the four digits of an answer. Document 01, "A console program reads standard input".
+-- Assumes nothing.
+use mathlib.Core.Bool.{Bool, true, cond, _&&_, _||_}
+use mathlib.Core.List.{List, [], _∷_}
+use mathlib.Core.Option.{Option, none, some}
+use Prim.Native.Nat.{ℕ, _+_, _-_, _*_, _/_, _%_}
+use lib.Dec.{eqb, leb, ltb}
+use lib.ListN.{length}
+use Rattle.tables.specs.declared.Relay.{Relay}
+use Rattle.console.specs.declared.Parsed.{Parsed}
+use Rattle.console.specs.declared.Parsed.the-variants.{Bytes, Bad}
+
+-- the characters 0 to 9, and A to F: "hexadecimal [..] upper case"
+abbrev pub isDecimal : ℕ → Bool
+isDecimal c = leb 48 c && leb c 57
+
+abbrev pub isLetter : ℕ → Bool
+isLetter c = leb 65 c && leb c 70
+
+unfoldable pub isDigit : ℕ → Bool
+isDigit c = isDecimal c || isLetter c
+
+-- what such a character counts; 0 for another, which no line that feeds has
+unfoldable pub digitOf : ℕ → ℕ
+digitOf c = cond (isDecimal c) (c - 48) (cond (isLetter c) (c - 55) 0)
+
+-- every character is such a digit
+unfoldable pub allDigits : List ℕ → Bool
+allDigits [] = true
+allDigits (c ∷ cs) = isDigit c && allDigits cs
+
+-- "A line that is empty, odd, not upper-case hexadecimal or over 2,058 digits feeds nothing"
+unfoldable pub feeds : List ℕ → Bool
+feeds line = ltb 0 (length line) && (eqb (length line % 2) 0 && (leb (length line) 2058 && allDigits line))
+
+-- a byte for every two digits, the high one first
+unfoldable pub pairs : List ℕ → List ℕ
+pairs [] = []
+pairs (a ∷ []) = []
+pairs (a ∷ (b ∷ cs)) = (digitOf a * 16 + digitOf b) ∷ pairs cs
+
+-- "A line is one piece": its bytes, where it feeds
+unfoldable pub parsed : List ℕ → Option (List ℕ)
+parsed line = cond (feeds line) (some (pairs line)) none
+
+-- the code's answer: how many bytes, or that the line feeds nothing; and the bytes themselves
+abbrev pub told : Option (List ℕ) → Parsed
+told none = Bad
+told (some bs) = Bytes (length bs)
+
+abbrev pub bytesIn : Option (List ℕ) → List ℕ
+bytesIn none = []
+bytesIn (some bs) = bs
+
+-- the character of a digit below 16, "upper case"
+abbrev pub glyph : ℕ → ℕ
+glyph d = cond (ltb d 10) (48 + d) (55 + d)
+
+-- a relay's bit: set where it is closed
+abbrev pub closedBit : Relay → ℕ
+closedBit r = cond (r .closed) 1 0
+
+-- the relays as a number, "lowest bit channel 1"
+unfoldable pub relayBits : List Relay → ℕ
+relayBits [] = 0
+relayBits (r ∷ rs) = closedBit r + 2 * relayBits rs
+
+-- "it prints answer and relays as four digits", and a newline
+unfoldable pub shownOf : ℕ → ℕ → List ℕ
+shownOf answer relays = glyph (answer / 16) ∷ glyph (answer % 16) ∷ glyph (relays / 16) ∷ glyph (relays % 16) ∷ 10 ∷ []

@@ -1,0 +1,396 @@
+// The console: lines of hexadecimal in, four digits a line out. Each line is one piece for connection 0, which is open at rank 2.
+// It alone knows hexadecimal and lines. `main`, `read_all`, `read_on` and `write_out` read and write and do nothing else; every other function is
+// on slices and numbers, and its contract says all that it answers and leaves.
+
+ghost use mathlib.Core.Path.{_≡_};
+ghost use mathlib.Core.Bool.{cond};
+ghost use Prim.Native.Nat.{_+_, _≤_, _<_, min};
+ghost use lib.Dec.{ltb};
+ghost use lib.ListN.{length, set, take};
+ghost use Rattle.laws.specs.Put.{put, Wrote};
+ghost use Rattle.board.specs.Calls.{Answers};
+ghost use Rattle.console.specs.Digits.{isDigit, digitOf, allDigits, feeds, pairs, parsed, told, bytesIn};
+ghost use Rattle.console.specs.Digits.{glyph as Digits·glyph};
+ghost use Rattle.console.specs.Digits.{closedBit, relayBits, shownOf};
+ghost use Rattle.console.specs.Lines.{started, lineCall, lineRooms, shown};
+ghost use Rattle.console.specs.Console.{heldOf, lineHeld, ended, step, says, run, said, atEnd, saidAtEnd};
+use board::Board;
+use board::Done;
+use board::InputSettings;
+use board::Settings;
+use libc::STDIN_FILENO;
+use libc::STDOUT_FILENO;
+use tables::Relay;
+
+// What is held by value between two bytes of the input: used characters of the line that has not ended, len bytes of output so far.
+struct Console {
+    board: Board,
+    used: usize,
+    len: usize,
+}
+
+// What a line holds: so many bytes, or nothing that can be fed.
+enum Parsed {
+    Bytes(usize),
+    Bad,
+}
+
+// ---- hexadecimal
+
+fn is_digit(c: u8) -> bool
+    ensures { λ r. ⌜ r ≡ isDigit c ⌝ }
+{
+    if c < 48 {
+        return false;
+    }
+    if c <= 57 {
+        return true;
+    }
+    if c < 65 {
+        return false;
+    }
+    c <= 70
+}
+
+fn digit(c: u8) -> u8
+    ensures { λ r. ⌜ (r ≡ digitOf c) × (r < 16) ⌝ }
+{
+    if c < 48 {
+        return 0;
+    }
+    if c <= 57 {
+        return c - 48;
+    }
+    if c < 65 {
+        return 0;
+    }
+    if c <= 70 {
+        return c - 55;
+    }
+    0
+}
+
+fn all_digits(line: &[u8]) -> bool
+    ensures { λ r. ⌜ r ≡ allDigits (now (line .entry)) ⌝ }
+{
+    let mut i: usize = 0;
+    while i < line.len() {
+        if !is_digit(line[i]) {
+            return false;
+        }
+        i += 1;
+    }
+    true
+}
+
+// Whether a line is not empty, even, at most 2,058 characters, and all digits.
+fn is_frame(line: &[u8]) -> bool
+    ensures { λ r. ⌜ r ≡ feeds (now (line .entry)) ⌝ }
+{
+    if line.len() == 0 {
+        return false;
+    }
+    if line.len() % 2 != 0 {
+        return false;
+    }
+    if 2058 < line.len() {
+        return false;
+    }
+    all_digits(line)
+}
+
+// The bytes of a line of digits, from the front of out on.
+fn unpack(line: &[u8], out: &mut [u8; 1029]) -> usize
+    requires { ⌜ length (now line) ≤ 2058 ⌝ }
+    ensures { λ r. ⌜ Wrote 0 (pairs (now (line .entry))) (now (out .entry)) (now (out .exit)) r ⌝ }
+{
+    let mut i: usize = 0;
+    let mut k: usize = 0;
+    while 1 < line.len() - i {
+        out[k] = digit(line[i]) * 16 + digit(line[i + 1]);
+        i += 2;
+        k += 1;
+    }
+    k
+}
+
+// A line that can be fed becomes its bytes, at the front of out; a bad line leaves out as it is.
+fn parse(line: &[u8], out: &mut [u8; 1029]) -> Parsed
+    ensures { λ r. ⌜ r ≡ told (parsed (now (line .entry))) ⌝ }
+    ensures { λ _. ⌜ now (out .exit) ≡ put 0 (bytesIn (parsed (now (line .entry)))) (now (out .entry)) ⌝ }
+{
+    if !is_frame(line) {
+        return Parsed::Bad;
+    }
+    Parsed::Bytes(unpack(line, out))
+}
+
+// One line's effect. The reply is written at the front of the reply buffer and goes nowhere: the console prints its answer number alone.
+fn feed_line(b: Board, rooms: &mut [u8; 4096], line: &[u8], reply: &mut [u8; 4096]) -> Done
+    ensures { λ r. ⌜ Answers (lineCall (now (line .entry)) b (now (rooms .entry))) (now (reply .entry)) (now (reply .exit)) r ⌝ }
+    ensures { λ _. ⌜ now (rooms .exit) ≡ lineRooms (now (line .entry)) b (now (rooms .entry)) ⌝ }
+{
+    let mut piece = [0u8; 1029];
+    let p = parse(line, &mut piece);
+    match p {
+        Parsed::Bytes(n) => board::bytes(b, rooms, 0, &piece[..n], reply),
+        Parsed::Bad => Done {
+            board: b,
+            answer: 255,
+            taken: 0,
+            len: 0,
+        },
+    }
+}
+
+// ---- an answer in digits
+
+fn closed_bit(r: Relay) -> u8
+    ensures { λ v. ⌜ (v ≡ closedBit r) × (v < 2) ⌝ }
+{
+    if r.closed { 1 } else { 0 }
+}
+
+// The relays as a byte, the last first, so that channel 1 ends as the lowest bit.
+fn relay_byte(relays: [Relay; 8]) -> u8
+    ensures { λ r. ⌜ r ≡ relayBits relays ⌝ }
+{
+    let mut v: u8 = 0;
+    let mut k: usize = 8;
+    while 0 < k {
+        k -= 1;
+        let r = relays[k];
+        v = v * 2 + closed_bit(r);
+    }
+    v
+}
+
+fn glyph(d: u8) -> u8
+    requires { ⌜ d < 16 ⌝ }
+    ensures { λ r. ⌜ r ≡ Digits·glyph d ⌝ }
+{
+    if d < 10 { 48 + d } else { 55 + d }
+}
+
+fn digits(answer: u8, relays: u8) -> [u8; 5]
+    ensures { λ r. ⌜ r ≡ shownOf answer relays ⌝ }
+{
+    [
+        glyph(answer / 16),
+        glyph(answer % 16),
+        glyph(relays / 16),
+        glyph(relays % 16),
+        10,
+    ]
+}
+
+// ---- the box
+
+// The box at power-up with nothing set, and connection 0 open at rank 2.
+fn start() -> Board
+    ensures { λ r. ⌜ r ≡ started ⌝ }
+{
+    let nothing = InputSettings {
+        setpointOne: 0,
+        setpointTwo: 0,
+        usageSetpoint: 0,
+        alarm: false,
+    };
+    let inputs = [nothing; 8];
+    let relays = [0u64; 8];
+    let d = board::connect(board::power_up(Settings { inputs, relays }), 0, 2);
+    d.board
+}
+// ---- lines out of the input
+
+// The characters of the line so far.
+fn so_far(line: &[u8], used: usize) -> &[u8]
+    ensures { λ r. ⌜ now r ≡ take used (now (line .entry)) ⌝ }
+{
+    if used < line.len() {
+        return &line[..used];
+    }
+    line
+}
+
+// The line has ended: it is fed, and its answer stands behind the output so far.
+fn end_line(
+    s: Console,
+    rooms: &mut [u8; 4096],
+    line: &[u8; 2059],
+    reply: &mut [u8; 4096],
+    out: &mut [u8],
+) -> Console
+    requires { ⌜ s .len + 5 ≤ length (now out) ⌝ }
+    ensures { λ r. ⌜ heldOf r (now (rooms .exit)) (now (line .entry)) (now (reply .exit)) ≡ ended (heldOf s (now (rooms .entry)) (now (line .entry)) (now (reply .entry))) ⌝ }
+    ensures { λ r. ⌜ Wrote (s .len) (shown (lineHeld (heldOf s (now (rooms .entry)) (now (line .entry)) (now (reply .entry))))) (now (out .entry)) (now (out .exit)) (r .len) ⌝ }
+{
+    let b = s.board;
+    let d = feed_line(b, rooms, so_far(line, s.used), reply);
+    let board = d.board;
+    let relays = board.plain.tables.relays;
+    let text = digits(d.answer, relay_byte(relays));
+    let at = s.len;
+    let len = words::copy(out, at, &text);
+    Console {
+        board,
+        used: 0, // the next line has no character yet
+        len,
+    }
+}
+
+// A character of a line is kept while there is room.
+fn keep(line: &mut [u8; 2059], used: usize, byte: u8) -> usize
+    ensures { λ r. ⌜ r ≡ cond (ltb used 2059) (used + 1) used ⌝ }
+    ensures { λ _. ⌜ now (line .exit) ≡ cond (ltb used 2059) (set (now (line .entry)) used byte) (now (line .entry)) ⌝ }
+{
+    if used < 2059 {
+        line[used] = byte;
+        return used + 1;
+    }
+    used
+}
+
+// One byte of the input: a newline ends the line, another is kept.
+fn take_byte(
+    s: Console,
+    rooms: &mut [u8; 4096],
+    line: &mut [u8; 2059],
+    reply: &mut [u8; 4096],
+    out: &mut [u8],
+    byte: u8,
+) -> Console
+    requires { ⌜ s .len + 5 ≤ length (now out) ⌝ }
+    ensures { λ r. ⌜ heldOf r (now (rooms .exit)) (now (line .exit)) (now (reply .exit)) ≡ step (heldOf s (now (rooms .entry)) (now (line .entry)) (now (reply .entry))) byte ⌝ }
+    ensures { λ r. ⌜ Wrote (s .len) (says (heldOf s (now (rooms .entry)) (now (line .entry)) (now (reply .entry))) byte) (now (out .entry)) (now (out .exit)) (r .len) ⌝ }
+{
+    if byte == 10 {
+        return end_line(s, rooms, line, reply, out);
+    }
+    let mut next = s;
+    next.used = keep(line, s.used, byte);
+    next
+}
+
+// How many of n bytes one call takes.
+fn within(n: usize) -> usize
+    ensures { λ r. ⌜ r ≡ min n 4096 ⌝ }
+{
+    if n < 4096 { n } else { 4096 }
+}
+
+// The bytes of a read, one by one: no more than the 4,096 that a read can bring, so that out has room for an answer a byte. The output
+// stands at the front of out.
+fn take_read(
+    s: Console,
+    rooms: &mut [u8; 4096],
+    line: &mut [u8; 2059],
+    reply: &mut [u8; 4096],
+    input: &[u8],
+    out: &mut [u8; 20480],
+) -> Console
+    ensures { λ r. ⌜ heldOf r (now (rooms .exit)) (now (line .exit)) (now (reply .exit)) ≡ run (heldOf s (now (rooms .entry)) (now (line .entry)) (now (reply .entry))) (take 4096 (now (input .entry))) ⌝ }
+    ensures { λ r. ⌜ Wrote 0 (said (heldOf s (now (rooms .entry)) (now (line .entry)) (now (reply .entry))) (take 4096 (now (input .entry)))) (now (out .entry)) (now (out .exit)) (r .len) ⌝ }
+{
+    let count = within(input.len());
+    let mut next = s;
+    next.len = 0;
+    let mut i: usize = 0;
+    while i < count {
+        next = take_byte(next, rooms, line, reply, out, input[i]);
+        i += 1;
+    }
+    next
+}
+
+// The end of the input: a last line without a newline counts if it is not empty.
+fn take_end(
+    s: Console,
+    rooms: &mut [u8; 4096],
+    line: &[u8; 2059],
+    reply: &mut [u8; 4096],
+    out: &mut [u8; 5],
+) -> Console
+    ensures { λ r. ⌜ heldOf r (now (rooms .exit)) (now (line .entry)) (now (reply .exit)) ≡ atEnd (heldOf s (now (rooms .entry)) (now (line .entry)) (now (reply .entry))) ⌝ }
+    ensures { λ r. ⌜ Wrote 0 (saidAtEnd (heldOf s (now (rooms .entry)) (now (line .entry)) (now (reply .entry)))) (now (out .entry)) (now (out .exit)) (r .len) ⌝ }
+{
+    let mut next = s;
+    next.len = 0;
+    if next.used == 0 {
+        return next;
+    }
+    end_line(next, rooms, line, reply, out)
+}
+
+// ---- reading and writing
+
+fn write_out(out: &[u8], n: usize) -> bool {
+    if n <= out.len() {
+        return io::write_all(STDOUT_FILENO, &out[..n]);
+    }
+    false
+}
+
+// What a read leaves, and whether another is to follow.
+struct Turn {
+    console: Console,
+    more: bool,
+}
+
+// One read, and the answers to the lines that end in it.
+fn read_on(
+    s: Console,
+    rooms: &mut [u8; 4096],
+    line: &mut [u8; 2059],
+    reply: &mut [u8; 4096],
+) -> Turn {
+    let mut input = [0u8; 4096];
+    let got = libc::read(STDIN_FILENO, &mut input);
+    if got <= 0 {
+        return Turn {
+            console: s,
+            more: false,
+        };
+    }
+    let mut out = [0u8; 20480];
+    let n = io::count(got, &input);
+    let console = take_read(s, rooms, line, reply, &input[..n], &mut out);
+    let more = write_out(&out, console.len);
+    Turn { console, more }
+}
+
+// A proved loop has to end, and nothing says that the input does: it counts its turns down, from a number that no run uses up.
+fn read_all(
+    s: Console,
+    rooms: &mut [u8; 4096],
+    line: &mut [u8; 2059],
+    reply: &mut [u8; 4096],
+) -> Console {
+    let mut turns = u64::MAX;
+    let mut turn = Turn {
+        console: s,
+        more: true,
+    };
+    while turns > 0 && turn.more {
+        let console = turn.console;
+        turn = read_on(console, rooms, line, reply);
+        turns -= 1;
+    }
+    turn.console
+}
+
+fn main() {
+    let mut rooms = [0u8; 4096];
+    let mut line = [0u8; 2059];
+    let mut reply = [0u8; 4096];
+    let board = start();
+    let begun = Console {
+        board,
+        used: 0,
+        len: 0,
+    };
+    let read = read_all(begun, &mut rooms, &mut line, &mut reply);
+    let mut out = [0u8; 5];
+    let last = take_end(read, &mut rooms, &line, &mut reply, &mut out);
+    write_out(&out, last.len);
+}
