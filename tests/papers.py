@@ -8,7 +8,7 @@ import sys
 
 os.chdir(os.path.join(os.path.dirname(os.path.abspath(__file__)), ".."))
 wrong = []
-counts = {"definitions": 0, "functions": 0, "theorems": 0, "edits": 0}
+counts = {"definitions": 0, "functions": 0, "theorems": 0, "edits": 0, "tests": 0}
 
 
 def read(path):
@@ -62,6 +62,13 @@ for label in re.findall(r"(?<!\*)\*([a-z][a-z0-9_]*)\*(?!\*)", trace):
     counts["edits"] += 1
     if label not in every_edit:
         wrong.append("TRACE: no edit %s" % label)
+
+vectors = read("crates/vectors/stdout")
+for line in re.findall(r"vectors: ([^;|]+)", trace):
+    for words in line.split(", "):
+        counts["tests"] += 1
+        if words.strip() not in vectors:
+            wrong.append("TRACE: vectors prints no %r" % words.strip())
 
 contracts = read("docs/CONTRACTS.md")
 sections = dict(re.findall(r"(?ms)^## ([a-z]+)\n(.*?)(?=^## |\Z)", contracts))
