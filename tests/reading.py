@@ -1,7 +1,7 @@
 #!/usr/bin/env python3
 """Holds docs/READING.md to the sources: every file of specs/ stands there with the lines that a reader must believe (blank lines, comments
 and imports aside), and the total is theirs. `--print` prints the rows instead. And every public function has its uniqueness lemma: a file
-Unique*.antt of some crate's proofs/ that names the function's own contract and proves two answers of it equal."""
+Unique*.antt of some crate's proofs/ that names the function's own contract and proves two answers of it equal. None has a `requires`, and each an `ensures`."""
 import glob
 import os
 import re
@@ -52,8 +52,12 @@ for path in glob.glob("crates/*/proofs/Unique*.antt"):
 functions = 0
 for crate in crates:
     for path in glob.glob("crates/%s/src/**/*.rt" % crate, recursive=True):
-        for name in re.findall(r"(?m)^\s*pub (?:extern \"C\" )?fn (\w+)", read(path)):
+        for name, head in re.findall(r"(?ms)^\s*pub (?:extern \"C\" )?fn (\w+)(.*?)^\s*\{$", read(path)):
             functions += 1
+            if re.search(r"\brequires\b", head):
+                wrong.append("%s::%s counts on its caller: it has a requires" % (crate, name))
+            if not re.search(r"\bensures\b", head):
+                wrong.append("%s::%s promises nothing: it has no ensures" % (crate, name))
             if (crate, name) not in unique:
                 wrong.append("no uniqueness lemma for %s::%s" % (crate, name))
 
