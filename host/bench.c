@@ -4,10 +4,12 @@
  *
  * First each workload is done by both, and the two must agree in every sum, in the reply and in all that the box holds. Then it is
  * measured in rounds; in each both come once, and the one that comes first changes. A figure is the median of its rounds, in processor
- * time, so that what else the machine does weighs little.
+ * time, so that what else the machine does weighs little. Last it measures a call of the library's form that does nothing: what handing the
+ * board on by value takes, whatever is done with it.
  */
 #define _POSIX_C_SOURCE 200809L
 
+#include "bare.h"
 #include "workloads.h"
 
 #include <stdio.h>
@@ -315,6 +317,32 @@ static void measure(const row *r, size_t rounds, double *library, double *peer)
     fflush(stdout);
 }
 
+static double time_of_bare(size_t calls)
+{
+    wellacorn_done e = {0};
+    uint64_t answers = 0;
+    double start = seconds();
+    for (size_t i = 0; i < calls; i++) {
+        e = bare_pass(e.board, 1);
+        answers += e.answer;
+    }
+    double end = seconds();
+    sink += answers;
+    return end - start;
+}
+
+static void measure_bare(size_t rounds, double *times)
+{
+    size_t calls = EVENTS;
+    while (time_of_bare(calls) < LEAST) {
+        calls *= 2;
+    }
+    for (size_t i = 0; i < rounds; i++) {
+        times[i] = time_of_bare(calls);
+    }
+    printf("A call in C that only takes the board and gives it back, by value: %.0f a second.\n", (double)calls / median(times, rounds));
+}
+
 static size_t rounds_of(int argc, char **argv)
 {
     if (argc == 1) {
@@ -353,6 +381,7 @@ int main(int argc, char **argv)
     for (size_t i = 0; i < ROWS; i++) {
         measure(&rows[i], rounds, library, peer);
     }
+    measure_bare(rounds, library);
     free(library);
     free(peer);
     return EXIT_SUCCESS;

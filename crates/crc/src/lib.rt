@@ -1,275 +1,68 @@
-// The CRC-16 of the protocol: document 001, "CRC-16 Algorithm". The definition goes bit by bit; the code looks a byte up in the table
-// that 001 prints, and the table's rule is proved once. Assumes nothing of its callers.
+// The CRC-16 of the protocol: document 001, "CRC-16 Algorithm". The definition goes bit by bit; the code takes four bytes a step, by
+// arithmetic alone. A look-up table such as 001 prints would be copied for each call, and its entries would follow one upon the other.
+// Assumes nothing of its callers.
 
 ghost use mathlib.Core.Path.{_≡_};
-ghost use Rattle.crc.specs.Crc.{crcOf, byteStep};
+ghost use Prim.Native.Nat.{_+_, _≤_, _<_};
+ghost use lib.ListN.{length, take, drop};
+ghost use Rattle.crc.specs.Crc.{bitSteps, byteStep, crcFrom, crcOf};
 
-// 001's look-up table: entry i is i after eight bit steps.
-const TABLE: [u16; 256] = [
-    0x0000,
-    0xC0C1,
-    0xC181,
-    0x0140,
-    0xC301,
-    0x03C0,
-    0x0280,
-    0xC241,
-    0xC601,
-    0x06C0,
-    0x0780,
-    0xC741,
-    0x0500,
-    0xC5C1,
-    0xC481,
-    0x0440,
-    0xCC01,
-    0x0CC0,
-    0x0D80,
-    0xCD41,
-    0x0F00,
-    0xCFC1,
-    0xCE81,
-    0x0E40,
-    0x0A00,
-    0xCAC1,
-    0xCB81,
-    0x0B40,
-    0xC901,
-    0x09C0,
-    0x0880,
-    0xC841,
-    0xD801,
-    0x18C0,
-    0x1980,
-    0xD941,
-    0x1B00,
-    0xDBC1,
-    0xDA81,
-    0x1A40,
-    0x1E00,
-    0xDEC1,
-    0xDF81,
-    0x1F40,
-    0xDD01,
-    0x1DC0,
-    0x1C80,
-    0xDC41,
-    0x1400,
-    0xD4C1,
-    0xD581,
-    0x1540,
-    0xD701,
-    0x17C0,
-    0x1680,
-    0xD641,
-    0xD201,
-    0x12C0,
-    0x1380,
-    0xD341,
-    0x1100,
-    0xD1C1,
-    0xD081,
-    0x1040,
-    0xF001,
-    0x30C0,
-    0x3180,
-    0xF141,
-    0x3300,
-    0xF3C1,
-    0xF281,
-    0x3240,
-    0x3600,
-    0xF6C1,
-    0xF781,
-    0x3740,
-    0xF501,
-    0x35C0,
-    0x3480,
-    0xF441,
-    0x3C00,
-    0xFCC1,
-    0xFD81,
-    0x3D40,
-    0xFF01,
-    0x3FC0,
-    0x3E80,
-    0xFE41,
-    0xFA01,
-    0x3AC0,
-    0x3B80,
-    0xFB41,
-    0x3900,
-    0xF9C1,
-    0xF881,
-    0x3840,
-    0x2800,
-    0xE8C1,
-    0xE981,
-    0x2940,
-    0xEB01,
-    0x2BC0,
-    0x2A80,
-    0xEA41,
-    0xEE01,
-    0x2EC0,
-    0x2F80,
-    0xEF41,
-    0x2D00,
-    0xEDC1,
-    0xEC81,
-    0x2C40,
-    0xE401,
-    0x24C0,
-    0x2580,
-    0xE541,
-    0x2700,
-    0xE7C1,
-    0xE681,
-    0x2640,
-    0x2200,
-    0xE2C1,
-    0xE381,
-    0x2340,
-    0xE101,
-    0x21C0,
-    0x2080,
-    0xE041,
-    0xA001,
-    0x60C0,
-    0x6180,
-    0xA141,
-    0x6300,
-    0xA3C1,
-    0xA281,
-    0x6240,
-    0x6600,
-    0xA6C1,
-    0xA781,
-    0x6740,
-    0xA501,
-    0x65C0,
-    0x6480,
-    0xA441,
-    0x6C00,
-    0xACC1,
-    0xAD81,
-    0x6D40,
-    0xAF01,
-    0x6FC0,
-    0x6E80,
-    0xAE41,
-    0xAA01,
-    0x6AC0,
-    0x6B80,
-    0xAB41,
-    0x6900,
-    0xA9C1,
-    0xA881,
-    0x6840,
-    0x7800,
-    0xB8C1,
-    0xB981,
-    0x7940,
-    0xBB01,
-    0x7BC0,
-    0x7A80,
-    0xBA41,
-    0xBE01,
-    0x7EC0,
-    0x7F80,
-    0xBF41,
-    0x7D00,
-    0xBDC1,
-    0xBC81,
-    0x7C40,
-    0xB401,
-    0x74C0,
-    0x7580,
-    0xB541,
-    0x7700,
-    0xB7C1,
-    0xB681,
-    0x7640,
-    0x7200,
-    0xB2C1,
-    0xB381,
-    0x7340,
-    0xB101,
-    0x71C0,
-    0x7080,
-    0xB041,
-    0x5000,
-    0x90C1,
-    0x9181,
-    0x5140,
-    0x9301,
-    0x53C0,
-    0x5280,
-    0x9241,
-    0x9601,
-    0x56C0,
-    0x5780,
-    0x9741,
-    0x5500,
-    0x95C1,
-    0x9481,
-    0x5440,
-    0x9C01,
-    0x5CC0,
-    0x5D80,
-    0x9D41,
-    0x5F00,
-    0x9FC1,
-    0x9E81,
-    0x5E40,
-    0x5A00,
-    0x9AC1,
-    0x9B81,
-    0x5B40,
-    0x9901,
-    0x59C0,
-    0x5880,
-    0x9841,
-    0x8801,
-    0x48C0,
-    0x4980,
-    0x8941,
-    0x4B00,
-    0x8BC1,
-    0x8A81,
-    0x4A40,
-    0x4E00,
-    0x8EC1,
-    0x8F81,
-    0x4F40,
-    0x8D01,
-    0x4DC0,
-    0x4C80,
-    0x8C41,
-    0x4400,
-    0x84C1,
-    0x8581,
-    0x4540,
-    0x8701,
-    0x47C0,
-    0x4680,
-    0x8641,
-    0x8201,
-    0x42C0,
-    0x4380,
-    0x8341,
-    0x4100,
-    0x81C1,
-    0x8081,
-    0x4040,
-];
+// Thirty-two bit steps at once. 001's polynomial is (x + 1)(x^15 + x + 1). By its second factor x^15 is x + 1 and x^30 is x^2 + 1: so a bit
+// that goes out comes in at two places, and the first factor's share hangs on whether an odd number of them is left.
+fn four_bytes(n: u32) -> u16
+    ensures { λ r. ⌜ r ≡ bitSteps 32 n ⌝ }
+{
+    let low = n % 262144;
+    let high = n / 262144;
+    let thirty = low ^ (low * 4);
+    let left = thirty % 16;
+    let folded = (thirty / 16) ^ ((left * 1024) ^ (left * 2048)) ^ (high ^ (high * 2));
+    let halves = n ^ (n / 65536);
+    let bytes = halves ^ (halves / 256);
+    let fours = bytes ^ (bytes / 16) ^ left;
+    let twos = fours ^ (fours / 4);
+    let ones = twos ^ (twos / 2);
+    ((folded ^ (ones % 2 * 0xC001)) % 65536) as u16
+}
 
-// One byte more.
-fn step(crc: u16, b: u8) -> u16
+// One byte more: its eight steps are the last of thirty-two.
+fn one_byte(crc: u16, b: u8) -> u16
     ensures { λ r. ⌜ r ≡ byteStep crc b ⌝ }
 {
-    let i = ((crc ^ (b as u16)) % 256) as usize;
-    (crc / 256) ^ TABLE[i]
+    let low = ((crc ^ (b as u16)) % 256) as u32;
+    (crc / 256) ^ four_bytes(low * 16777216)
+}
+
+// A byte is never widened with its sign.
+fn wide(b: u8) -> u32
+    ensures { λ r. ⌜ (r ≡ b) × (r < 256) ⌝ }
+{
+    b as u32
+}
+
+// The four bytes from `at` on, behind those that gave crc: as one number, the first the lowest.
+fn next_four(crc: u16, s: &[u8], at: usize) -> u16
+    requires { ⌜ at + 4 ≤ length (now s) ⌝ }
+    ensures { λ r. ⌜ r ≡ crcFrom crc (take 4 (drop at (now (s .entry)))) ⌝ }
+{
+    let word = wide(s[at])
+        + 256 * wide(s[at + 1])
+        + 65536 * wide(s[at + 2])
+        + 16777216 * wide(s[at + 3]);
+    four_bytes((crc as u32) ^ word)
+}
+
+// The bytes from `from` on, behind those that gave crc.
+fn last_bytes(s: &[u8], from: usize, crc: u16) -> u16
+    ensures { λ r. ⌜ r ≡ crcFrom crc (drop from (now (s .entry))) ⌝ }
+{
+    let mut sum = crc;
+    let mut i = from;
+    while i < s.len() {
+        sum = one_byte(sum, s[i]);
+        i += 1;
+    }
+    sum
 }
 
 // The CRC-16 of the bytes of s.
@@ -277,8 +70,10 @@ pub fn crc16(s: &[u8]) -> u16
     ensures { λ r. ⌜ r ≡ crcOf (now (s .entry)) ⌝ }
 {
     let mut crc: u16 = 0;
-    for i in 0..s.len() {
-        crc = step(crc, s[i]);
+    let mut i: usize = 0;
+    while 4 <= s.len() - i {
+        crc = next_four(crc, s, i);
+        i += 4;
     }
-    crc
+    last_bytes(s, i, crc)
 }

@@ -3,7 +3,12 @@
 // Every function takes every input: any half-read message (nonsense too), any room (an empty one too), any piece.
 
 ghost use mathlib.Core.Path.{_≡_};
-ghost use Rattle.framing.specs.Reading.{afterOf, firstOf, stepOf, roomOf, runOf};
+ghost use mathlib.Core.Bool.{cond};
+ghost use Prim.Native.Nat.{_+_, _-_, _≤_, _<_};
+ghost use lib.Dec.{ltb};
+ghost use lib.ListN.{length};
+ghost use Rattle.laws.specs.Put.{put};
+ghost use Rattle.framing.specs.Reading.{half, afterOf, firstOf, stepOf, roomOf, runOf};
 ghost use Rattle.framing.specs.Judge.{unchecked, judgeOf, refusalOf};
 ghost use Rattle.framing.specs.Seal.{sealOf, sealEnd};
 
@@ -110,6 +115,13 @@ pub fn step(h: Half, b: u8) -> Outcome
     after(got, h.len, h.sum)
 }
 
+// Whether a room of so many bytes cannot hold a message.
+fn too_long(room: usize, len: u16) -> bool
+    ensures { λ r. ⌜ r ≡ ltb room len ⌝ }
+{
+    room < (len as usize)
+}
+
 // A content byte of a message that the room can hold is kept.
 fn keep(room: &mut [u8], h: Half, b: u8)
     ensures { λ r. ⌜ now (room .exit) ≡ roomOf (now (room .entry)) h b ⌝ }
@@ -118,7 +130,7 @@ fn keep(room: &mut [u8], h: Half, b: u8)
     if got < 5 {
         return;
     }
-    if room.len() < (h.len as usize) {
+    if too_long(room.len(), h.len) {
         return;
     }
     let at = (got - 5) as usize;
@@ -127,7 +139,46 @@ fn keep(room: &mut [u8], h: Half, b: u8)
     }
 }
 
-// The bytes of a piece are taken one by one until a message ends or the piece does.
+// How many of n bytes are content that does not yet end its message, so that they can be taken together.
+fn together(h: Half, n: usize) -> usize
+    ensures { λ r. ⌜ (r ≤ n) × (0 < r → (5 ≤ h .got) × (h .got + r ≤ 4 + h .len)) ⌝ }
+{
+    let got = h.got;
+    if got < 5 {
+        return 0;
+    }
+    let last = 4 + (h.len as u32);
+    if last <= got {
+        return 0;
+    }
+    let left = (last - got) as usize;
+    if left < n { left } else { n }
+}
+
+// Such bytes are kept together, if the room can hold their message, and else skipped.
+fn keep_part(room: &mut [u8], h: Half, part: &[u8])
+    requires { ⌜ (5 ≤ h .got) × (h .got + length (now part) ≤ 4 + h .len) ⌝ }
+    ensures { λ r. ⌜ now (room .exit) ≡ cond (ltb (length (now (room .entry))) (h .len)) (now (room .entry)) (put (h .got - 5) (now (part .entry)) (now (room .entry))) ⌝ }
+{
+    if too_long(room.len(), h.len) {
+        return;
+    }
+    words::copy(room, (h.got - 5) as usize, part);
+}
+
+// A message read n bytes further.
+fn further(h: Half, n: usize) -> Half
+    requires { ⌜ h .got + n ≤ 4 + h .len ⌝ }
+    ensures { λ r. ⌜ r ≡ half (h .got + n) (h .len) (h .sum) ⌝ }
+{
+    Half {
+        got: h.got + (n as u32),
+        len: h.len,
+        sum: h.sum,
+    }
+}
+
+// The bytes of a piece are taken one by one until a message ends or the piece does; content bytes that end nothing, as many as there are.
 pub fn feed(half: Half, room: &mut [u8], piece: &[u8]) -> Fed
     ensures { λ r. ⌜ (r ≡ (runOf 0 half (now (room .entry)) (now (piece .entry))) .fed) × (now (room .exit) ≡ (runOf 0 half (now (room .entry)) (now (piece .entry))) .room) ⌝ }
 {
@@ -140,19 +191,27 @@ pub fn feed(half: Half, room: &mut [u8], piece: &[u8]) -> Fed
                 outcome: Outcome::Waiting(h),
             };
         }
-        let b = piece[i];
-        keep(room, h, b);
-        let e = step(h, b);
-        i += 1;
-        match e {
-            Outcome::Waiting(n) => {
-                h = n;
-            }
-            _ => {
-                break Fed {
-                    taken: i,
-                    outcome: e,
-                };
+        let n = together(h, piece.len() - i);
+        if 0 < n {
+            let to = i + n;
+            keep_part(room, h, &piece[i..to]);
+            h = further(h, n);
+            i = to;
+        } else {
+            let b = piece[i];
+            keep(room, h, b);
+            let e = step(h, b);
+            i += 1;
+            match e {
+                Outcome::Waiting(n) => {
+                    h = n;
+                }
+                _ => {
+                    break Fed {
+                        taken: i,
+                        outcome: e,
+                    };
+                }
             }
         }
     };

@@ -44,12 +44,13 @@ pub struct Tables {
     pub clock: u64,
 }
 
-// 01's answer number, whether a level or a relay's state really changed, and the tables after it.
+// The tables after it, 01's answer number, and whether a level or a relay's state really changed. The tables stand first: behind smaller
+// fields they would be copied once more wherever they are handed on.
 #[repr(C)]
 pub struct Changed {
+    pub tables: Tables,
     pub answer: u8,
     pub changed: bool,
-    pub tables: Tables,
 }
 
 // A number grown by d, that stops at its largest.
