@@ -1,12 +1,9 @@
 -- How a message that has ended is judged and answered. Assumes nothing.
 use mathlib.Core.Path.{_≡_, refl, sym, _∙_}
 use mathlib.Core.Bool.{Bool, true, false}
-use mathlib.Core.List.{List, [], _∷_}
+use mathlib.Core.List.{List}
 use Prim.Native.Nat.{ℕ, _≤_}
 use native.Mathlib.Omega.{arith}
-use types.Run.{OneOf}
-use denote.Enum.Declared.{tagOf}
-use mathlib.Core.Logic.{⊎-elim}
 use borrow.Author.Tests.{ltb-true, ltb-false, le-leb, lt-leb, le-ltb}
 use lib.Dec.{eqb, ltb}
 use lib.ListN.{length, take}
@@ -14,17 +11,20 @@ use Rattle.laws.proofs.Put.{put-none}
 use Rattle.crc.specs.Crc.{crcOf}
 use Rattle.framing.specs.declared.Judged.the-variants.{TooLong, BadSum, Whole}
 use Rattle.framing.specs.declared.Outcome.{Outcome}
-use Rattle.framing.proofs.Outcome.{the-type}
-use Rattle.framing.specs.declared.Outcome.the-variants.{Waiting, KeepAlive, Stray, Message}
+use Rattle.framing.specs.declared.Outcome.the-variants.{Message}
 use Rattle.framing.specs.Judge.{unchecked, judgeOf}
-use Rattle.framing.specs.Reading.{start, gotOf, halfAfter}
+use Rattle.framing.specs.declared.Half.{Half}
+use Rattle.framing.specs.Reading.{start, Run, gotOf, halfAfter}
 use Rattle.plain.specs.declared.Plain.{Plain}
 use Rattle.plain.specs.declared.Served.{Served}
 use Rattle.plain.specs.Lines.{isOpen}
 use Rattle.plain.specs.Events.{Did, refused}
 use Rattle.plain.specs.Calls.{given, Does}
 use Rattle.plain.specs.Serving.{servedContent, servedCall, servedMessage}
-use Rattle.board.specs.Calls.{answered}
+use Rattle.board.specs.declared.Board.{Board}
+use Rattle.board.specs.declared.Done.{Done}
+use Rattle.board.specs.Held.{madeOf, putHalf}
+use Rattle.board.specs.Calls.{answered, fedCall, Answers}
 
 abbrev Ended : ℕ → ℕ → List ℕ → ℕ → Plain → Did
 Ended len sum room c p = answered c (gotOf room (Message len sum)) p
@@ -71,9 +71,12 @@ served-ready c s room p o h l = rw (o, le-ltb room 4096 h, le-ltb 1024 (length s
 pub alone : {d : Did} {n : ℕ} {p : Plain} {o : List ℕ} {r : Served} → d ≡ refused n p → r ≡ given (refused n p) → Does d o o r
 alone {o = o} e g = record { gives = g ∙ rw e; leaves = rw e (sym (put-none 0 o)) }
 
--- what is half read after a message has ended
-pub nothing-left : (o : Outcome) → OneOf (1 ∷ 2 ∷ 3 ∷ []) (tagOf the-type o) → halfAfter o ≡ start
-nothing-left (Waiting h) t = absurd (⊎-elim (λ (q : 0 ≡ 1). omega arith) (λ q. ⊎-elim (λ (x : 0 ≡ 2). omega arith) (λ (x : 0 ≡ 3). omega arith) q) t)
-nothing-left KeepAlive t = refl
-nothing-left Stray t = refl
-nothing-left (Message l s) t = refl
+-- bytes that ended no frame: what they are answered, and what is half read after them
+pub quietly : (c n : ℕ) (ρ : Run) (b : Board) (h : Half) (x : Outcome) (o : List ℕ) (r : Done) → ρ .fed .outcome ≡ x → answered c (gotOf (ρ .room) x) (b .plain) ≡ refused n (b .plain) → halfAfter x ≡ h
+    → r ≡ madeOf (given (refused n (b .plain))) (putHalf c h (b .halves)) (ρ .fed .taken) → Answers (fedCall c ρ b) o o r
+quietly c n ρ b h x o r told e k g = record { gives = g ∙ rw (told, e, k); leaves = rw (told, e) (sym (put-none 0 o)) }
+
+-- bytes that ended one: what its message came to, and nothing half read after it
+pub ended-by : (c len sum : ℕ) (ρ : Run) (b : Board) (s : Served) (o o′ : List ℕ) (r : Done) → ρ .fed .outcome ≡ Message len sum
+    → Does (answered c (gotOf (ρ .room) (Message len sum)) (b .plain)) o o′ s → r ≡ madeOf s (putHalf c start (b .halves)) (ρ .fed .taken) → Answers (fedCall c ρ b) o o′ r
+ended-by c len sum ρ b s o o′ r told w g = record { gives = g ∙ rw (told, w .gives); leaves = rw told (w .leaves) }

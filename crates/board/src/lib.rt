@@ -6,7 +6,7 @@ ghost use mathlib.Core.Path.{_≡_};
 ghost use mathlib.Core.List.{map};
 ghost use Prim.Native.Nat.{_<_, _≤_};
 ghost use lib.ListN.{length};
-ghost use Rattle.framing.specs.Reading.{start, runOf, gotOf, halfAfter};
+ghost use Rattle.framing.specs.Reading.{start, runOf, gotOf};
 ghost use mathlib.Core.Bool.{true};
 ghost use Rattle.plain.specs.Lines.{isOpen};
 ghost use Rattle.plain.specs.Events.{refused};
@@ -219,15 +219,6 @@ pub fn collect(b: Board, c: u8, reply: &mut [u8]) -> Done
 
 // ---- bytes
 
-fn half_after(o: Outcome) -> Half
-    ensures { λ r. ⌜ r ≡ halfAfter o ⌝ }
-{
-    match o {
-        Outcome::Waiting(h) => h,
-        _ => nothing_read(),
-    }
-}
-
 // An answer with no reply, nothing changed.
 fn unchanged(plain: Plain, answer: u8) -> Served
     ensures { λ r. ⌜ r ≡ given (refused answer plain) ⌝ }
@@ -253,19 +244,6 @@ fn judge_message(p: Plain, c: u8, len: u16, sum: u16, room: &[u8], reply: &mut [
     }
 }
 
-// What the bytes of a piece came to is answered.
-fn answer(p: Plain, c: u8, o: Outcome, room: &[u8], reply: &mut [u8]) -> Served
-    requires { ⌜ Ready c p (now room) (now reply) ⌝ }
-    ensures { λ r. ⌜ Does (answered c (gotOf (now (room .entry)) o) p) (now (reply .entry)) (now (reply .exit)) r ⌝ }
-{
-    match o {
-        Outcome::Waiting(_) => unchanged(p, 0),
-        Outcome::KeepAlive => unchanged(p, 2),
-        Outcome::Stray => unchanged(p, 5),
-        Outcome::Message(len, sum) => judge_message(p, c, len, sum, room, reply),
-    }
-}
-
 // A piece is fed to the room of the connection at `at`.
 fn feed_part(rooms: &mut [u8], at: usize, half: Half, piece: &[u8]) -> Fed
     requires { ⌜ (at < 4) × (4096 ≤ length (now rooms)) ⌝ }
@@ -276,14 +254,14 @@ fn feed_part(rooms: &mut [u8], at: usize, half: Half, piece: &[u8]) -> Fed
     framing::feed(half, &mut rooms[from..to], piece)
 }
 
-// What the bytes came to is answered, from that room.
-fn answer_part(p: Plain, c: u8, o: Outcome, rooms: &[u8], reply: &mut [u8]) -> Served
+// A message that has ended is judged and served, from that room.
+fn judge_part(p: Plain, c: u8, len: u16, sum: u16, rooms: &[u8], reply: &mut [u8]) -> Served
     requires { ⌜ (isOpen c (p .lines) ≡ true) × (4096 ≤ length (now rooms)) × (4096 ≤ length (now reply)) ⌝ }
-    ensures { λ r. ⌜ Does (answered c (gotOf (roomAt c (now (rooms .entry))) o) p) (now (reply .entry)) (now (reply .exit)) r ⌝ }
+    ensures { λ r. ⌜ Does (answered c (gotOf (roomAt c (now (rooms .entry))) (Outcome.Message len sum)) p) (now (reply .entry)) (now (reply .exit)) r ⌝ }
 {
     let from = (c as usize) * 1024;
     let to = from + 1024;
-    answer(p, c, o, &rooms[from..to], reply)
+    judge_message(p, c, len, sum, &rooms[from..to], reply)
 }
 
 fn set_half(halves: [Half; 4], at: usize, h: Half) -> [Half; 4]
@@ -293,6 +271,21 @@ fn set_half(halves: [Half; 4], at: usize, h: Half) -> [Half; 4]
     let mut all = halves;
     all[at] = h;
     all
+}
+
+// Bytes that ended no frame: the half-read message alone changes, and the board is handed on as it is.
+fn quiet(b: Board, at: usize, h: Half, answer: u8, taken: usize) -> Done
+    requires { ⌜ at < 4 ⌝ }
+    ensures { λ r. ⌜ r ≡ madeOf (given (refused answer (b .plain))) (putHalf at h (b .halves)) taken ⌝ }
+{
+    let mut board = b;
+    board.halves[at] = h;
+    Done {
+        board,
+        answer,
+        taken,
+        len: 0,
+    }
 }
 
 // The bytes of an open connection, with a reply buffer that is long enough.
@@ -307,8 +300,15 @@ fn take_bytes(b: Board, rooms: &mut [u8], c: u8, piece: &[u8], reply: &mut [u8])
     let half = halves[at];
     let f = feed_part(rooms, at, half, piece);
     let o = f.outcome;
-    let s = answer_part(p, c, o, rooms, reply);
-    finish(s, set_half(halves, at, half_after(o)), f.taken)
+    match o {
+        Outcome::Waiting(h) => quiet(b, at, h, 0, f.taken),
+        Outcome::KeepAlive => quiet(b, at, nothing_read(), 2, f.taken),
+        Outcome::Stray => quiet(b, at, nothing_read(), 5, f.taken),
+        Outcome::Message(len, sum) => {
+            let s = judge_part(p, c, len, sum, rooms, reply);
+            finish(s, set_half(halves, at, nothing_read()), f.taken)
+        }
+    }
 }
 
 // Bytes of connection c: taken one by one until a message ends or the piece does; a message that ends is served.
