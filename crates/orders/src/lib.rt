@@ -1,6 +1,7 @@
 // What a message's content asks for. This crate alone knows how a content is laid out: a content and the sender's rank come in, an order or
 // the number of the refusal goes out, judged in the order 8, 9, 10, 11. In types 5 and 10 the request or action is judged (11) as soon as
-// the content holds it, before the length (10). Nothing is read past a content's end. Assumes nothing of its callers.
+// the content holds it, before the length (10). Fields are taken off a content's front, never past its end, by a reader that holds the
+// content and how much of it is taken. Assumes nothing of its callers.
 
 ghost use mathlib.Core.Path.{_≡_};
 ghost use Prim.Native.Nat.{_+_, _%_, _≤_};
@@ -73,7 +74,7 @@ struct Numbers {
     fourth: u64,
 }
 
-// The functions over a reader only take it apart and put it together. What they do with its content and its place these functions do.
+// The functions over a reader only take it apart and put it together; what is to be done with a content and a place is done here.
 
 // The place `by` bytes on from `at`, or the content's end where that comes first: a number sought there is 0, as one past the end is.
 fn onward(content: &[u8], at: usize, by: usize) -> usize
@@ -109,7 +110,7 @@ fn rest_at(content: &[u8], at: usize) -> &[u8]
     &content[start..]
 }
 
-// A reader of a content of which `at` bytes are taken.
+// A reader of a content of whose front `at` bytes are taken.
 fn reader_at<'a>(content: &'a [u8], at: usize) -> Reader<'a>
     ensures { λ r. ⌜ r ≡ readerOf (content .entry) at ⌝ }
 {
@@ -130,14 +131,16 @@ fn take<'a>(reader: Reader<'a>, n: u8) -> Field<'a>
     }
 }
 
-// What is left.
+// What is left to take.
 fn left<'a>(reader: Reader<'a>) -> &'a [u8]
     ensures { λ r. ⌜ now r ≡ drop (reader .entry .at) (now (reader .entry .content)) ⌝ }
 {
     rest_at(reader.content, reader.at)
 }
 
-// The numbers of the four fields that follow one another from `at` on, so many bytes each. One of no bytes is 0.
+// The numbers of four fields, of so many bytes each, that one reader takes off the front from `at` on. A layout of fewer fields ends in
+// fields of no bytes, whose number is 0. No caller needs to know of readers. Only the type, by which a layout is chosen, and the lengths
+// by which entries are stepped over are looked at where they stand.
 fn fields(content: &[u8], at: usize, first: u8, second: u8, third: u8, fourth: u8) -> Numbers
     ensures { λ r. ⌜ r ≡ fieldsOf (now (content .entry)) at first second third fourth ⌝ }
 {
@@ -306,6 +309,7 @@ fn command(content: &[u8], rank: u8) -> Order
     if rank < 1 {
         return Order::Refused(9);
     }
+    // the type and the action, then the channel or, in its place, the mask and the state
     let named = fields(content, 0, 1, 1, 2, 0);
     let masked = fields(content, 0, 1, 1, 1, 1);
     let action = one_byte(named.second);
@@ -450,6 +454,7 @@ pub fn ids(content: &[u8]) -> &[u8]
 pub fn entry_at(content: &[u8], at: usize) -> Entry
     ensures { λ r. ⌜ r ≡ entryOf (now (content .entry)) at ⌝ }
 {
+    // the ID, the length and the flags, then the count or, in its place, the state
     let counted = fields(content, at, 8, 2, 1, 4);
     let stated = fields(content, at, 8, 2, 1, 1);
     let size = two_bytes(counted.second);
