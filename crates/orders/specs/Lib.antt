@@ -1,3 +1,4 @@
 pub mod Entries
+pub mod Fields
 pub mod Layouts
 pub mod Orders

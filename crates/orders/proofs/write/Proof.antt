@@ -15,5 +15,5 @@ write-spec =
     (λ c. search tests)
     (λ c κs. search needs)
     (λ c κs. search needs)
-    (λ c. search (tests, ← c .before .before .two-at .ensures, ← c .before .fits-exactly .ensures))
-    (λ c. search (tests, ← c .before .before .two-at .ensures, ← c .before .fits-exactly .ensures)))
+    (λ c. search (tests, ← c .before .before .two-behind-type .ensures, ← c .before .fits-exactly .ensures))
+    (λ c. search (tests, ← c .before .before .two-behind-type .ensures, ← c .before .fits-exactly .ensures)))
