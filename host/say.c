@@ -24,17 +24,19 @@ static size_t from, to;             /* what waits stands between them */
 static unsigned long left_out;      /* lines that did not fit */
 static bool gone;                   /* nobody can read standard output any more */
 
-static void keep(const char *text, size_t n)
+/* Room behind what waits. */
+static size_t room(void)
 {
-    if (KEPT - to < n && from > 0) {
+    if (from > 0) {
         memmove(kept, kept + from, to - from);
         to -= from;
         from = 0;
     }
-    if (KEPT - to < n) {
-        left_out++;
-        return;
-    }
+    return KEPT - to;
+}
+
+static void keep(const char *text, size_t n)
+{
     memcpy(kept + to, text, n);
     to += n;
 }
@@ -44,6 +46,15 @@ static size_t time_of_day(char *text, size_t size)
     time_t now = time(NULL);
     struct tm local;
     return localtime_r(&now, &local) == NULL ? 0 : strftime(text, size, "%H:%M:%S ", &local);
+}
+
+/* Says how many lines are missing, in the place where they are. */
+static void tell_left_out(void)
+{
+    char line[LONGEST];
+    int n = snprintf(line, sizeof line, "(%lu lines were left out here: standard output was not read)\n", left_out);
+    keep(line, (size_t)n);
+    left_out = 0;
 }
 
 void say(const char *format, ...)
@@ -56,6 +67,13 @@ void say(const char *format, ...)
     va_end(args);
     if (made < 0 || gone) {
         return;
+    }
+    if (KEPT - to < 2 * LONGEST && room() < 2 * LONGEST) {
+        left_out++;
+        return;
+    }
+    if (left_out > 0) {
+        tell_left_out();
     }
     n = strlen(line);
     line[n++] = '\n';
@@ -73,16 +91,6 @@ static bool ready(int timeout)
     return poll(&out, 1, timeout) == 1;
 }
 
-static void tell_left_out(void)
-{
-    if (to == from && left_out > 0) {
-        unsigned long lines = left_out;
-        left_out = 0;
-        from = to = 0;
-        say("%lu lines were left out here: standard output was not read", lines);
-    }
-}
-
 static void write_part(void)
 {
     size_t n = to - from < PART ? to - from : PART;
@@ -97,19 +105,23 @@ static void write_part(void)
     }
 }
 
+/* Writes while standard output becomes ready within so many ms. */
+static void write_within(int timeout)
+{
+    while (say_waits() && ready(timeout)) {
+        if (to == from) {
+            tell_left_out();
+        }
+        write_part();
+    }
+}
+
 void say_write(void)
 {
-    tell_left_out();
-    while (!gone && to > from && ready(0)) {
-        write_part();
-        tell_left_out();
-    }
+    write_within(0);
 }
 
 void say_end(void)
 {
-    tell_left_out();
-    while (!gone && to > from && ready(PATIENCE)) {
-        write_part();
-    }
+    write_within(PATIENCE);
 }

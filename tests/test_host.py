@@ -330,7 +330,8 @@ class Events(Case):
             process.terminate()
             printed = process.stdout.read().decode()
             self.assertEqual(process.wait(PATIENCE), 0)
-            self.assertIn("lines were left out here", printed)
+            self.assertTrue("lines were left out here" in printed)
+            self.assertTrue("the box has ended" in printed.rsplit("\n", 2)[1])
         finally:
             process.kill()
             process.wait()
