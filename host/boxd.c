@@ -569,6 +569,7 @@ static void end(host *h)
     if (h->box.trace != NULL) {
         fclose(h->box.trace);
     }
+    say_end();                  /* so that there is room for the last line */
     say("the box has ended");
     say_end();
 }
