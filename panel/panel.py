@@ -421,11 +421,18 @@ def stop(*_):
     raise KeyboardInterrupt
 
 
+def end_with_input(server):
+    for _ in sys.stdin:
+        pass
+    server.shutdown()
+
+
 def main():
     parser = argparse.ArgumentParser(description=__doc__, formatter_class=argparse.RawDescriptionHelpFormatter)
     parser.add_argument("--box", default="127.0.0.1:9200", metavar="HOST:PORT", help="where the box is; %(default)s without it")
     parser.add_argument("--port", type=int, default=9280, help="of the page; %(default)s without it, 0 for any that is free")
     parser.add_argument("--user", metavar="NAME", help="log in as this user")
+    parser.add_argument("--end-with-input", action="store_true", help="end when standard input does")
     asked = parser.parse_args()
     secret = password() if asked.user is not None else None
     for word in (asked.user, secret):
@@ -438,11 +445,14 @@ def main():
         fail(f"cannot listen on 127.0.0.1:{asked.port}: {fault}. Another panel may be running: end it, or choose another port with --port")
     signal.signal(signal.SIGTERM, stop)
     threading.Thread(target=box.run, daemon=True).start()
+    if asked.end_with_input:
+        threading.Thread(target=end_with_input, args=(server,), daemon=True).start()
     print(f"panel: open http://127.0.0.1:{server.server_address[1]}/ to see the box at {asked.box}", flush=True)
     try:
         server.serve_forever()
     except KeyboardInterrupt:
-        print("panel: ended", flush=True)
+        pass
+    print("panel: ended", flush=True)
 
 
 if __name__ == "__main__":

@@ -9,6 +9,8 @@ tests/browser.py tries the page itself in a real browser.
 import http.client
 import json
 import os
+import signal
+import socket
 import subprocess
 import sys
 import tempfile
@@ -60,6 +62,12 @@ class Panel(Program):
 
 def answers(state):
     return state["answers"]
+
+
+def free_port():
+    with socket.socket() as probe:
+        probe.bind(("127.0.0.1", 0))
+        return probe.getsockname()[1]
 
 
 class Case(unittest.TestCase):
@@ -213,6 +221,24 @@ class Case(unittest.TestCase):
             self.assertEqual(panel.ended(), 0)
             self.assertTrue(panel.find("panel: ended"))
             host.quit()
+
+    def test_run(self):
+        """`./run --panel` starts both; Ctrl-C ends both, and so does `quit`, and even a kill of the box."""
+        for end in ("Ctrl-C", "quit", "a kill"):
+            words = [os.path.join(ROOT, "run"), "--quiet", "--panel", "--panel-port", "0", "--listen", f"127.0.0.1:{free_port()}"]
+            with self.subTest(end), Program(words, start_new_session=True) as both:
+                both.port = int(both.wait_for(r"open http://127\.0\.0\.1:(\d+)/").group(1))
+                both.wait_for(r"127\.0\.0\.1:\d+ connected, administrator")
+                if end == "Ctrl-C":
+                    os.killpg(both.process.pid, signal.SIGINT)
+                elif end == "a kill":
+                    both.process.kill()
+                else:
+                    both.tell("quit")
+                status = both.ended()                       # what it printed is read to its end: the panel has ended too
+                self.assertEqual(status, -signal.SIGKILL if end == "a kill" else 0)
+                self.assertEqual(both.count("the box has ended"), 0 if end == "a kill" else 1)
+                self.assertTrue(both.over)
 
 
 if __name__ == "__main__":
