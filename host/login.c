@@ -112,13 +112,14 @@ static slow *slow_of(door *d, string name)
     return &d->names[sum % LOGIN_NAMES];
 }
 
+/* The refusal is held back from the beginning of the trial on, so that its time does not tell how much work there was. */
 static void was_wrong(login *l, uint64_t now)
 {
     l->wrong++;
     l->name->wrong++;
     l->name->last = now;
     l->name->until = now + pause_after(l->name->wrong);
-    l->until = now + pause_after(l->wrong);
+    l->until = l->begun + pause_after(l->wrong);
     l->stage = LOGIN_HELD;
 }
 
@@ -135,11 +136,12 @@ static const user *costliest(const users *all)
     return most;
 }
 
-static void start_work(login *l, const door *d)
+static void start_work(login *l, const door *d, uint64_t now)
 {
     const user *like = l->who == NULL ? costliest(d->users) : l->who;
     pbkdf2_begin(&l->work, l->password, l->password_len, like->salt, like->salt_len, like->iterations);
     wipe(l->password, sizeof l->password);
+    l->begun = now;
     l->stage = LOGIN_WORKS;
 }
 
@@ -205,7 +207,7 @@ void login_turn(login *l, door *d, uint64_t now)
         /* another connection may have got the same name wrong meanwhile */
         l->until = l->name->until;
         if (now >= l->until) {
-            start_work(l, d);
+            start_work(l, d, now);
         }
         break;
     case LOGIN_WORKS:

@@ -40,6 +40,7 @@ typedef enum {
 typedef struct {
     login_stage stage;
     uint64_t until;             /* ms; in LOGIN_WAITS and LOGIN_HELD */
+    uint64_t begun;             /* when the trial began; ms */
     const user *who;            /* NULL: no user has that name */
     slow *name;
     unsigned wrong;             /* wrong passwords on this connection, one behind the other */

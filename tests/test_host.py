@@ -516,6 +516,29 @@ class Login(Case):
             client.clock()
             host.quit()
 
+    def test_without_users(self):
+        """Where nobody has to log in, a LoginRequest of 001's layout is answered as an administrator's, any other is refused."""
+        rng = random.Random("logins")
+        stream = b""
+        for _ in range(1500):
+            name, password = rng.randbytes(rng.randrange(9)), rng.randbytes(rng.choice((0, 1, 8, 254, 255)))
+            content = b"\x7E" + string(name) + string(password)
+            change = rng.randrange(6)
+            if change == 0:
+                content = content[:rng.randrange(1, len(content) + 1)]
+            elif change == 1:
+                content += rng.randbytes(rng.randrange(1, 500))
+            elif change == 2:
+                content = content[:1] + bytes([rng.randrange(256)]) + content[2:]
+            stream += frame(content)
+        with Boxd("--quiet", trace=True) as host, Client(host.port) as client:
+            client.talk(stream, rng, 2000)
+            host.quit()
+            judge(host, [client])
+        answers = [content[1] for content in client.contents() if content[0] == 125]
+        self.assertEqual(len(answers), 1500)
+        self.assertEqual(set(answers), {0x80, 0xFF})
+
     def test_again(self):
         """A login on a connection that has one: the right password changes the rank, a wrong one changes nothing."""
         with self.start() as host, Client(host.port) as client:
