@@ -271,11 +271,12 @@ class Events(Case):
         """The clock goes as the monotonic clock does, through thousands of messages: no ms is lost or counted twice."""
         with Boxd("--quiet", trace=True) as host, Client(host.port) as client:
             asked = []
-            for _ in range(3):
+            for turns, rest in ((700, 0), (15, 0.02), (700, 0), (0, 0)):            # busy, at rest between, busy
                 before = time.monotonic()
                 reading = client.clock()
                 asked.append((before, time.monotonic(), reading))
-                for _ in range(700):
+                for _ in range(turns):
+                    time.sleep(rest)
                     client.clock()
             for (sent, got, reading), (sent_, got_, reading_) in zip(asked, asked[1:]):
                 self.assertLessEqual((sent_ - got) * 1000 - 2, reading_ - reading)
