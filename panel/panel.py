@@ -9,7 +9,9 @@ that is no terminal; it is neither an argument nor in the environment, where oth
 """
 
 import argparse
+import base64
 import getpass
+import hashlib
 import http.server
 import json
 import os
@@ -26,7 +28,7 @@ CHANNELS = range(1, 9)
 INPUT_IDS = [0x0000FF + 0x100 * k for k in CHANNELS]            # din1 to din8
 RELAY_IDS = [0x0100FF + 0x100 * k for k in CHANNELS]            # rout1 to rout8
 
-ROUND = 1.0                 # s from one look at the box to the next
+ROUND = 2.0                 # s from one look at the box to the next; changes come by themselves
 SILENCE = 5.0               # s without an answer after which the box does not answer
 LOGIN_PATIENCE = 45.0       # s: wrong passwords are answered late, and after them right ones too
 AGAIN = 1.0                 # s until the next try after a lost connection
@@ -191,7 +193,7 @@ class Box:
         """Sends messages, and a round behind them; gives the number of the round, which is answered when all before it is done."""
         ids = INPUT_IDS + RELAY_IDS
         devices = b"\x15" + len(ids).to_bytes(2, "big") + b"".join(id.to_bytes(8, "big") for id in ids)
-        messages = [*contents, b"\x05\x00\x01", devices, b"\x05\x00\x00"]
+        messages = [*contents, devices, b"\x05\x00\x00"]
         with self.sending:
             if self.socket is None:
                 raise Lost("There is no connection to it.")
@@ -239,7 +241,9 @@ class Box:
         with self.sending:
             self.socket = connection
             self.asked = self.answered = 0
-        heard, next_round = time.monotonic(), 0.0
+        self.send(b"\x05\x00\x01")
+        heard = time.monotonic()
+        next_round = heard + ROUND
         while True:
             now = time.monotonic()
             if now >= next_round:
@@ -301,8 +305,7 @@ class Handler(http.server.BaseHTTPRequestHandler):
         self.send_header("X-Content-Type-Options", "nosniff")
         self.send_header("X-Frame-Options", "DENY")
         self.send_header("Referrer-Policy", "no-referrer")
-        self.send_header("Content-Security-Policy", "default-src 'none'; style-src 'unsafe-inline'; script-src 'unsafe-inline'; "
-                         "connect-src 'self'; img-src data:; frame-ancestors 'none'; base-uri 'none'; form-action 'none'")
+        self.send_header("Content-Security-Policy", self.server.policy)
         self.end_headers()
         self.wfile.write(data)
 
@@ -335,7 +338,7 @@ class Handler(http.server.BaseHTTPRequestHandler):
         box, last = self.server.box, -1
         while True:
             with box.changed:
-                box.changed.wait_for(lambda: box.version != last, ROUND)
+                box.changed.wait_for(lambda: box.version != last, 1.0)
                 last, data = box.version, box.shown()
             try:
                 self.wfile.write(b"data: " + data.encode("ascii") + b"\n\n")
@@ -389,6 +392,13 @@ class Server(http.server.ThreadingHTTPServer):
         self.box = box
         with open(os.path.join(HERE, "page.html"), encoding="utf-8") as page:
             self.page = page.read()
+        self.policy = (f"default-src 'none'; style-src {self.digest('style')}; script-src {self.digest('script')}; connect-src 'self'; "
+                       "img-src data:; frame-ancestors 'none'; base-uri 'none'; form-action 'none'")
+
+    def digest(self, tag):
+        """What stands in that element of the page, as a policy names it: this and nothing else may run or style the page."""
+        inside = self.page.split(f"<{tag}>", 1)[1].split(f"</{tag}>", 1)[0]
+        return "'sha256-" + base64.b64encode(hashlib.sha256(inside.encode("utf-8")).digest()).decode("ascii") + "'"
 
     def handle_error(self, request, client_address):
         """A browser that goes away in the middle is no fault."""
