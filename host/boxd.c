@@ -34,7 +34,8 @@ enum {
     ADMITTED = 8,               /* new clients in a turn */
     ACCEPT_AGAIN = 1000,        /* ms until the next try where a client could not be admitted */
     LONGEST_WAIT = 3600000,     /* ms */
-    SCRAP = 4096
+    SCRAP = 4096,
+    SYSTEM_QUEUE = 32768        /* bytes that the system may hold for a client: a client that does not read is to find few old messages */
 };
 
 /* Places in the list that is polled. */
@@ -242,7 +243,8 @@ static void read_line(host *h, uint8_t c, short events)
 
 static bool prepare(int fd)
 {
-    int on = 1;
+    int on = 1, queue = SYSTEM_QUEUE;
+    setsockopt(fd, SOL_SOCKET, SO_SNDBUF, &queue, sizeof queue);
     setsockopt(fd, IPPROTO_TCP, TCP_NODELAY, &on, sizeof on);
     setsockopt(fd, SOL_SOCKET, SO_KEEPALIVE, &on, sizeof on);
     return fcntl(fd, F_SETFL, O_NONBLOCK) == 0 && fcntl(fd, F_SETFD, FD_CLOEXEC) == 0;

@@ -123,11 +123,11 @@ class Clients(Case):
         ids = (INPUT_IDS + RELAY_IDS) * 7 + INPUT_IDS[:6] * 2
         message = frame(b"\x15" + field(len(ids), 2) + b"".join(field(id, 8) for id in ids))
         with Boxd("--quiet", trace=True) as host, Client(host.port, small=True) as slow, Client(host.port) as quick:
-            sender = threading.Thread(target=slow.send, args=(message * 2000,))
+            sender = threading.Thread(target=slow.send, args=(message * 1000,))
             sender.start()
             self.stands_still(host, quick)
-            self.assertLess(host.count("connection 0 read"), 2000)
-            reader = threading.Thread(target=self.read_replies, args=(slow, 2000))
+            self.assertLess(host.count("connection 0 read"), 500)
+            reader = threading.Thread(target=self.read_replies, args=(slow, 1000))
             reader.start()
             sender.join(PATIENCE)
             reader.join(PATIENCE)
@@ -135,7 +135,7 @@ class Clients(Case):
             quick.finish()
             host.quit()
             judge(host, [slow, quick])
-        self.assertEqual(slow.got.count(frame(b"\x16")[5:] + field(len(ids), 2)), 2000)
+        self.assertEqual(slow.got.count(frame(b"\x16")[5:] + field(len(ids), 2)), 1000)
 
     def stands_still(self, host, quick):
         """Asks on the quick connection until the slow one has not been served for 200 answers."""
@@ -563,21 +563,21 @@ class Login(Case):
 
     def slow_name(self, host):
         for _ in range(2):
+            begun = time.monotonic()
             with Client(host.port) as client:
                 found, after = self.answer(client, login(b"anna", b"guess"))
                 self.assertEqual(found, REFUSED)
                 self.assertGreaterEqual(after, 0.99)
-        with Client(host.port) as client:               # the name is slowed down for two seconds, its connection for one
-            found, after = self.answer(client, login(b"anna", b"salmon"))
-            self.assertEqual(found, USER)
-            self.assertGreaterEqual(after, 0.5)
+        with Client(host.port) as client:               # the second slows the name down for two seconds, its connection for one
+            self.assertEqual(self.answer(client, login(b"anna", b"salmon"))[0], USER)
+            self.assertGreaterEqual(time.monotonic() - begun, 1.99)
             self.assertEqual(self.answer(client, login(b"anna", b"salmon"))[0], USER)
 
     def slow_connection(self, host):
         with Client(host.port) as client:
             for attempt, least in ((b"nobody0X", 0.99), (b"nobody0Y", 1.99)):
-                client.send(login(attempt, b"guess") + CLOCK)
                 begun = time.monotonic()
+                client.send(login(attempt, b"guess") + CLOCK)
                 self.assertEqual(client.next_of(125), b"\x7D\xFF")
                 self.assertGreaterEqual(time.monotonic() - begun, least)
 
@@ -597,14 +597,22 @@ class Login(Case):
             gone.socket.setsockopt(socket.SOL_SOCKET, socket.SO_LINGER, b"\x01\0\0\0\0\0\0\0")
             gone.close()
             host.wait_for("connection 2 closed")
-            anna.send(login(b"anna", b"salmon"))
-            served = 0
-            while not anna.waits():
-                olav.clock()
-                served += 1
+            served = max(self.served_meanwhile(anna, olav) for _ in range(3))       # a busy machine may hold us up once
             self.assertGreaterEqual(served, 20)
-            self.assertEqual(anna.next_of(125), b"\x7D\x02")
             host.quit()
+
+    def served_meanwhile(self, anna, olav):
+        """How often olav is answered while anna's login is worked on."""
+        while anna.waits():
+            anna.more()                                 # Monitor messages of an earlier login
+        anna.send(login(b"anna", b"salmon"))
+        served = 0
+        while not anna.waits():
+            olav.clock()
+            served += 1
+        self.assertEqual(anna.next_of(125), b"\x7D\x02")
+        anna.next_of(1)
+        return served
 
 
 # ---------------------------------------------------------------------------------------------
