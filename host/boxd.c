@@ -71,6 +71,7 @@ typedef struct {
     uint64_t now;               /* ms since the start, as the box has been told */
     uint64_t accept_after;      /* ms */
     int listener;
+    bool failed;                /* the box ends because it cannot go on */
 } host;
 
 static int stop_pipe[2];
@@ -416,7 +417,12 @@ static bool turn(host *h)
     tell_time(h);
     watch_all(h, polled);
     if (poll(polled, POLLED, patience(h)) < 0) {
-        memset(polled, 0, sizeof polled);       /* a signal, most likely: then the pipe tells the next poll */
+        if (errno != EINTR) {
+            say("the box cannot wait for its clients: %s. Raise `ulimit -n` to 32 or more and start it again", strerror(errno));
+            h->failed = true;
+            return false;
+        }
+        memset(polled, 0, sizeof polled);       /* a signal: the pipe tells the next poll */
     }
     tell_time(h);
     if (polled[AT_STOP].revents != 0 || (polled[AT_COMMANDS].revents != 0 && !read_commands(h))) {
@@ -543,7 +549,11 @@ static bool begin(host *h)
     for (int i = 0; i < GUESTS; i++) {
         h->guests[i].fd = -1;
     }
-    if (!catch_signals() || !listen_at(h)) {
+    if (!catch_signals()) {
+        fprintf(stderr, "boxd: signals cannot be caught: %s. Raise `ulimit -n` or end other programs\n", strerror(errno));
+        return false;
+    }
+    if (!listen_at(h)) {
         return false;
     }
     clock_gettime(CLOCK_MONOTONIC, &h->start);
@@ -589,5 +599,5 @@ int main(int argc, char **argv)
     while (turn(&h)) {
     }
     end(&h);
-    return EXIT_SUCCESS;
+    return h.failed ? EXIT_FAILURE : EXIT_SUCCESS;
 }

@@ -144,16 +144,16 @@ static void add_changes(words *w, const wellacorn_board *before, const wellacorn
 static void add_refused(words *w, const uint8_t *content, size_t n, uint8_t answer)
 {
     if (n == 0) {
-        add(w, "sent an empty message; refused (%u): it has no type", answer);
-        return;
+        add(w, "sent an empty message; refused (%u): ", answer);
+    } else {
+        add(w, "sent a message of type %u; refused (%u): ", content[0], answer);
     }
-    add(w, "sent a message of type %u; refused (%u): ", content[0], answer);
     switch (answer) {
     case WELLACORN_BAD_CHECKSUM:
         add(w, "its checksum differs. The link is noisy, or the sender reckons it wrongly");
         break;
     case WELLACORN_NOT_OFFERED:
-        add(w, "this box does not offer it");
+        add(w, "%s", n == 0 ? "it has no type" : "this box does not offer it");
         break;
     case WELLACORN_LOW_RANK:
         add(w, "its rank is too low. %s", content[0] == 7 ? "An administrator has to log in" : "Somebody has to log in first");

@@ -22,8 +22,8 @@ import time
 import unittest
 
 import traces
-from boxd import Boxd, CLOCK, Client, MONITOR, PATIENCE, PROGRAM, Played, Program, ROOT, frame, judge, login, string
-from model import Box, INPUT_IDS, RELAY_IDS, crc16, field, number
+from boxd import Boxd, CLOCK, Client, MONITOR, PATIENCE, PROGRAM, Program, ROOT, frame, judge, login, string
+from model import Box, INPUT_IDS, RELAY_IDS, field, number
 
 sys.path.insert(0, os.path.join(ROOT, "host"))
 import adduser                                                                                      # noqa: E402
@@ -636,6 +636,14 @@ class Arguments(Case):
         with Boxd("--quiet") as host:
             said = self.refused("--listen", f"127.0.0.1:{host.port}")
             self.assertIn("Another box may be running: end it, or choose another port", said)
+
+    @unittest.skipUnless(os.uname().machine == "x86_64", "an emulator needs files of its own")
+    def test_too_few_files(self):
+        """Where the system allows too few open files to wait for clients, the box says so and ends."""
+        shell = ["bash", "-c", 'ulimit -n 12; exec "$@"', "bash", os.path.join(ROOT, "host", "exec"), PROGRAM, "--quiet", "--listen", "127.0.0.1:0"]
+        with Program(shell) as program:
+            self.assertEqual(program.ended(), 1)
+            self.assertTrue(program.find("Raise `ulimit -n`"))
 
     def test_help(self):
         done = subprocess.run([os.path.join(ROOT, "host", "exec"), PROGRAM, "--help"], stdout=subprocess.PIPE, text=True, check=True,
