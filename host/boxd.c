@@ -6,6 +6,7 @@
 
 #include "box.h"
 #include "commands.h"
+#include "guests.h"
 #include "line.h"
 #include "login.h"
 #include "morning.h"
@@ -29,12 +30,9 @@
 
 enum {
     TURN = 64,                  /* messages of one connection before the others have their turn */
-    GUESTS = 8,                 /* clients that are being turned away */
-    GUEST_STAYS = 1000,         /* ms that one has to read why */
     ADMITTED = 8,               /* new clients in a turn */
     ACCEPT_AGAIN = 1000,        /* ms until the next try where a client could not be admitted */
     LONGEST_WAIT = 3600000,     /* ms */
-    SCRAP = 4096,
     SYSTEM_QUEUE = 32768        /* bytes that the system may hold for a client: a client that does not read is to find few old messages */
 };
 
@@ -48,13 +46,6 @@ enum {
     AT_GUESTS = AT_LINES + WELLACORN_CONNECTIONS,
     POLLED = AT_GUESTS + GUESTS
 };
-
-/* A client for whom there is no connection: it has been told so, and what it still sends is read and dropped, for else the system would
- * throw away what it has been told. */
-typedef struct {
-    int fd;                     /* -1: none */
-    uint64_t until;
-} guest;
 
 typedef struct {
     options options;
@@ -251,51 +242,6 @@ static bool prepare(int fd)
     return fcntl(fd, F_SETFL, O_NONBLOCK) == 0 && fcntl(fd, F_SETFD, FD_CLOEXEC) == 0;
 }
 
-static void end_guest(guest *g)
-{
-    close(g->fd);
-    g->fd = -1;
-}
-
-static guest *place_for_guest(host *h)
-{
-    guest *oldest = &h->guests[0];
-    for (int i = 0; i < GUESTS; i++) {
-        if (h->guests[i].fd < 0) {
-            return &h->guests[i];
-        }
-        oldest = h->guests[i].until < oldest->until ? &h->guests[i] : oldest;
-    }
-    end_guest(oldest);
-    return oldest;
-}
-
-/* Told in the protocol's own words: a Textual Response, type 3, with its newline and its final zero. */
-static void turn_away(host *h, int fd, const char *peer)
-{
-    static const char text[] = "\003All four connections of this box are in use. Close one of them, or try again later.\n";
-    uint8_t frame[sizeof text + 5];
-    size_t n = frame_of(frame, (const uint8_t *)text, sizeof text);
-    guest *g = place_for_guest(h);
-    send(fd, frame, n, MSG_NOSIGNAL);
-    shutdown(fd, SHUT_WR);
-    g->fd = fd;
-    g->until = h->now + GUEST_STAYS;
-    say("%s was told that all four connections are in use, and turned away", peer);
-}
-
-static void turn_guest(host *h, guest *g, short events)
-{
-    uint8_t scrap[SCRAP];
-    if (g->fd < 0) {
-        return;
-    }
-    ssize_t n = events != 0 ? recv(g->fd, scrap, sizeof scrap, 0) : 1;
-    if (h->now >= g->until || n == 0 || (n < 0 && errno != EAGAIN && errno != EINTR)) {
-        end_guest(g);
-    }
-}
-
 static void welcome(host *h, int fd, const char *peer)
 {
     for (uint8_t c = 0; c < WELLACORN_CONNECTIONS; c++) {
@@ -304,7 +250,7 @@ static void welcome(host *h, int fd, const char *peer)
             return;
         }
     }
-    turn_away(h, fd, peer);
+    guests_turn_away(h->guests, h->now, fd, peer);
 }
 
 /* Takes one new client. Whether there may be more. */
@@ -344,9 +290,7 @@ static int patience(const host *h)
     for (uint8_t c = 0; c < WELLACORN_CONNECTIONS; c++) {
         next = can_serve(h, c) || can_collect(h, c) ? h->now : earlier(next, login_next(&h->logins[c], h->now));
     }
-    for (int i = 0; i < GUESTS; i++) {
-        next = h->guests[i].fd >= 0 ? earlier(next, h->guests[i].until) : next;
-    }
+    next = earlier(next, guests_next(h->guests));
     next = h->options.quiet ? next : earlier(next, morning_next(&h->morning));
     next = h->accept_after > h->now ? earlier(next, h->accept_after) : next;
     return next <= h->now ? 0 : (int)(next - h->now);
@@ -433,7 +377,7 @@ static bool turn(host *h)
     }
     turn_lines(h, polled);
     for (int i = 0; i < GUESTS; i++) {
-        turn_guest(h, &h->guests[i], polled[AT_GUESTS + i].revents);
+        guests_turn(&h->guests[i], h->now, polled[AT_GUESTS + i].revents != 0);
     }
     for (int i = 0; polled[AT_DOOR].revents != 0 && i < ADMITTED && admit(h);) {
         i++;
@@ -546,9 +490,7 @@ static bool begin(host *h)
     for (int c = 0; c < WELLACORN_CONNECTIONS; c++) {
         h->lines[c].fd = -1;
     }
-    for (int i = 0; i < GUESTS; i++) {
-        h->guests[i].fd = -1;
-    }
+    guests_begin(h->guests);
     if (!catch_signals()) {
         fprintf(stderr, "boxd: signals cannot be caught: %s. Raise `ulimit -n` or end other programs\n", strerror(errno));
         return false;
@@ -571,11 +513,7 @@ static void end(host *h)
             close_line(h, c, "the box ends");
         }
     }
-    for (int i = 0; i < GUESTS; i++) {
-        if (h->guests[i].fd >= 0) {
-            end_guest(&h->guests[i]);
-        }
-    }
+    guests_end(h->guests);
     close(h->listener);
     keep_trace(&h->box);
     if (h->box.trace != NULL) {
