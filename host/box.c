@@ -1,0 +1,149 @@
+/* The calls of the library, each with what a host owes it. */
+#define _POSIX_C_SOURCE 200809L
+
+#include "box.h"
+
+#include <inttypes.h>
+#include <string.h>
+
+enum { HEADER = 5 };
+
+/* ---- The trace: what the box was told, so that host/replay and tests/model.py can play it again. Bytes that a call did not take are left
+ * out: they come in the line of the call that takes them. */
+
+static void trace_hex(FILE *to, const uint8_t *bytes, size_t n)
+{
+    static const char digits[] = "0123456789ABCDEF";
+    if (n == 0) {
+        fputc('-', to);
+    }
+    for (size_t i = 0; i < n; i++) {
+        fputc(digits[bytes[i] >> 4], to);
+        fputc(digits[bytes[i] & 0xF], to);
+    }
+    fputc('\n', to);
+}
+
+static void trace_power(FILE *to, const wellacorn_settings *s)
+{
+    fputs("power", to);
+    for (int k = 0; k < WELLACORN_CHANNELS; k++) {
+        const wellacorn_input_settings *in = &s->inputs[k];
+        fprintf(to, " %" PRIu32 " %" PRIu32 " %" PRIu64 " %d", in->setpoint_one, in->setpoint_two, in->usage_setpoint, in->alarm);
+    }
+    for (int k = 0; k < WELLACORN_CHANNELS; k++) {
+        fprintf(to, " %" PRIu64, s->relays[k]);
+    }
+    fputc('\n', to);
+}
+
+/* ---- The calls */
+
+static came keep(box *b, wellacorn_done done)
+{
+    b->board = done.board;
+    return (came){.answer = done.answer, .taken = done.taken, .len = done.len};
+}
+
+void box_power_up(box *b, const wellacorn_settings *settings, FILE *trace)
+{
+    b->trace = trace;
+    b->told = 0;
+    b->board = wellacorn_power_up(*settings);
+    if (b->trace != NULL) {
+        trace_power(b->trace, settings);
+    }
+}
+
+void box_time(box *b, uint64_t now)
+{
+    while (now > b->told) {
+        uint64_t d = now - b->told;
+        uint32_t part = d > UINT32_MAX ? UINT32_MAX : (uint32_t)d;
+        keep(b, wellacorn_pass(b->board, part));
+        b->told += part;
+        if (b->trace != NULL) {
+            fprintf(b->trace, "pass %" PRIu32 "\n", part);
+        }
+    }
+}
+
+came box_level(box *b, uint8_t k, uint8_t v)
+{
+    if (b->trace != NULL) {
+        fprintf(b->trace, "level %u %u\n", k, v);
+    }
+    return keep(b, wellacorn_level(b->board, k, v));
+}
+
+came box_connect(box *b, uint8_t c, uint8_t rank)
+{
+    if (b->trace != NULL) {
+        fprintf(b->trace, "open %u %u\n", c, rank);
+    }
+    return keep(b, wellacorn_connect(b->board, c, rank));
+}
+
+came box_close(box *b, uint8_t c)
+{
+    if (b->trace != NULL) {
+        fprintf(b->trace, "close %u\n", c);
+    }
+    return keep(b, wellacorn_close(b->board, c));
+}
+
+came box_bytes(box *b, uint8_t c, const uint8_t *piece, size_t n)
+{
+    came done = keep(b, wellacorn_bytes(b->board, b->rooms, c, piece, n, b->reply, sizeof b->reply));
+    if (b->trace != NULL) {
+        fprintf(b->trace, "bytes %u %zu ", c, sizeof b->reply);
+        trace_hex(b->trace, piece, done.taken);
+    }
+    return done;
+}
+
+came box_collect(box *b, uint8_t c)
+{
+    if (b->trace != NULL) {
+        fprintf(b->trace, "collect %u %zu\n", c, sizeof b->reply);
+    }
+    return keep(b, wellacorn_collect(b->board, c, b->reply, sizeof b->reply));
+}
+
+bool box_due(const box *b, uint8_t c)
+{
+    return b->board.plain.lines[c].due;
+}
+
+size_t box_content(const box *b, const wellacorn_board *before, uint8_t c, came done, const uint8_t **content)
+{
+    size_t whole = before->halves[c].got + done.taken;
+    *content = b->rooms + (size_t)WELLACORN_CONTENT * c;
+    return whole > HEADER && whole <= HEADER + WELLACORN_CONTENT ? whole - HEADER : 0;
+}
+
+/* ---- What the host itself says. The rule of the checksum: start at 0, a byte into the low end, eight steps to the right. */
+
+static uint16_t checksum(const uint8_t *bytes, size_t n)
+{
+    unsigned sum = 0;
+    for (size_t i = 0; i < n; i++) {
+        sum ^= bytes[i];
+        for (int step = 0; step < 8; step++) {
+            sum = sum & 1 ? sum >> 1 ^ 0xA001 : sum >> 1;
+        }
+    }
+    return (uint16_t)sum;
+}
+
+size_t frame_of(uint8_t *frame, const uint8_t *content, size_t n)
+{
+    uint16_t sum = checksum(content, n);
+    frame[0] = 0x01;
+    frame[1] = (uint8_t)(n >> 8);
+    frame[2] = (uint8_t)n;
+    frame[3] = (uint8_t)(sum >> 8);
+    frame[4] = (uint8_t)sum;
+    memcpy(frame + HEADER, content, n);
+    return HEADER + n;
+}

@@ -1,0 +1,541 @@
+/* The reference host: the box on the network, for ordinary JNIOR clients. docs/HOST.md says how to write one's own.
+ *
+ * One thread, one poll. Each turn: wait, tell the box the time, take what has come, serve each connection a while, send what can be sent.
+ */
+#define _POSIX_C_SOURCE 200809L
+
+#include "box.h"
+#include "commands.h"
+#include "guests.h"
+#include "line.h"
+#include "login.h"
+#include "morning.h"
+#include "options.h"
+#include "say.h"
+#include "told.h"
+#include "users.h"
+
+#include <errno.h>
+#include <fcntl.h>
+#include <netinet/in.h>
+#include <netinet/tcp.h>
+#include <poll.h>
+#include <signal.h>
+#include <stdio.h>
+#include <stdlib.h>
+#include <string.h>
+#include <sys/socket.h>
+#include <time.h>
+#include <unistd.h>
+
+enum {
+    TURN = 64,                  /* messages of one connection before the others have their turn */
+    ADMITTED = 8,               /* new clients in a turn */
+    ACCEPT_AGAIN = 1000,        /* ms until the next try where a client could not be admitted */
+    LONGEST_WAIT = 3600000,     /* ms */
+    SYSTEM_QUEUE = 32768        /* bytes that the system may hold for a client: a client that does not read is to find few old messages */
+};
+
+/* Places in the list that is polled. */
+enum {
+    AT_STOP,
+    AT_COMMANDS,
+    AT_PRINT,
+    AT_DOOR,
+    AT_LINES,
+    AT_GUESTS = AT_LINES + WELLACORN_CONNECTIONS,
+    POLLED = AT_GUESTS + GUESTS
+};
+
+typedef struct {
+    options options;
+    users users;
+    door door;
+    box box;
+    line lines[WELLACORN_CONNECTIONS];
+    login logins[WELLACORN_CONNECTIONS];
+    heard heard[WELLACORN_CONNECTIONS];
+    guest guests[GUESTS];
+    morning morning;
+    commands commands;
+    struct timespec start;
+    uint64_t now;               /* ms since the start, as the box has been told */
+    uint64_t accept_after;      /* ms */
+    int listener;
+    bool failed;                /* the box ends because it cannot go on */
+} host;
+
+static int stop_pipe[2];
+
+/* ---- Time */
+
+/* Whole ms since the start. The rest of a ms is not lost: it is in the next reading. */
+static uint64_t clock_ms(const host *h)
+{
+    struct timespec t;
+    clock_gettime(CLOCK_MONOTONIC, &t);
+    int64_t ns = (int64_t)(t.tv_sec - h->start.tv_sec) * 1000000000 + (t.tv_nsec - h->start.tv_nsec);
+    return ns < 0 ? 0 : (uint64_t)ns / 1000000;
+}
+
+static void tell_time(host *h)
+{
+    h->now = clock_ms(h);
+    box_time(&h->box, h->now);
+}
+
+/* ---- Connections */
+
+static void open_line(host *h, uint8_t c, int fd, const char *peer)
+{
+    uint8_t rank = h->door.users == NULL ? 2 : 0;
+    line_open(&h->lines[c], fd, peer);
+    login_fresh(&h->logins[c]);
+    h->heard[c] = (heard){0};
+    box_connect(&h->box, c, rank);
+    say("connection %u: %s connected, %s", c, peer, told_rank(rank));
+}
+
+static void close_line(host *h, uint8_t c, const char *why)
+{
+    uint32_t half = h->box.board.halves[c].got;
+    told_rest(&h->heard[c], c);
+    box_close(&h->box, c);
+    line_shut(&h->lines[c]);
+    login_fresh(&h->logins[c]);
+    if (half > 0) {
+        say("connection %u closed: %s; %u bytes of an unfinished message were dropped", c, why, (unsigned)half);
+    } else {
+        say("connection %u closed: %s", c, why);
+    }
+}
+
+/* ---- Logins */
+
+/* A message that the library does not offer may be a login, which is the host's. Whether it was. */
+static bool begins_login(host *h, uint8_t c, const wellacorn_board *before, came done)
+{
+    const uint8_t *content;
+    size_t n = done.answer == WELLACORN_NOT_OFFERED ? box_content(&h->box, before, c, done, &content) : 0;
+    if (n == 0 || content[0] != LOGIN_TYPE) {
+        return false;
+    }
+    told_rest(&h->heard[c], c);
+    login_begin(&h->logins[c], &h->door, h->now, content, n);
+    return true;
+}
+
+static void tell_login(const host *h, uint8_t c, uint8_t rank)
+{
+    const login *l = &h->logins[c];
+    const char *name = l->who == NULL ? "somebody unknown" : l->who->name;
+    if (l->stage == LOGIN_WRONG) {
+        say("connection %u: login of %s refused", c, name);
+    } else if (h->door.users == NULL) {
+        say("connection %u logged in: nobody has to here, each is an administrator", c);
+    } else {
+        say("connection %u: %s logged in, %s", c, name, told_rank(rank));
+    }
+}
+
+/* Goes on with the login of a connection, and answers it when it is judged. The connection is then opened anew at the user's rank. */
+static void go_on_with_login(host *h, uint8_t c)
+{
+    login *l = &h->logins[c];
+    login_turn(l, &h->door, h->now);
+    if (l->stage != LOGIN_RIGHT && l->stage != LOGIN_WRONG) {
+        return;
+    }
+    uint8_t rank = l->stage == LOGIN_WRONG ? 0 : l->who == NULL ? 2 : l->who->rank;
+    uint8_t content[2], frame[LOGIN_REPLY];
+    login_answer(content, rank);
+    line_queue(&h->lines[c], frame, frame_of(frame, content, sizeof content));
+    tell_login(h, c, rank);
+    if (l->stage == LOGIN_RIGHT && l->who != NULL) {
+        box_close(&h->box, c);
+        box_connect(&h->box, c, rank);
+    }
+    login_done(l);
+}
+
+/* ---- Serving */
+
+static bool can_serve(const host *h, uint8_t c)
+{
+    const uint8_t *bytes;
+    const line *l = &h->lines[c];
+    return line_is_open(l) && !login_is_on(&h->logins[c]) && line_has_room(l) && line_untaken(l, &bytes) > 0;
+}
+
+/* Offers the untaken bytes, message for message. */
+static void serve(host *h, uint8_t c)
+{
+    line *l = &h->lines[c];
+    const uint8_t *piece;
+    for (int i = 0; i < TURN && can_serve(h, c); i++) {
+        size_t n = line_untaken(l, &piece);
+        wellacorn_board before = h->box.board;
+        came done = box_bytes(&h->box, c, piece, n);
+        line_took(l, done.taken);
+        line_queue(l, h->box.reply, done.len);
+        if (!begins_login(h, c, &before, done)) {
+            told_bytes(&h->heard[c], &h->box, &before, c, done);
+        }
+    }
+    if (line_untaken(l, &piece) == 0) {
+        told_rest(&h->heard[c], c);
+    }
+}
+
+static bool can_collect(const host *h, uint8_t c)
+{
+    return box_due(&h->box, c) && line_has_room(&h->lines[c]);
+}
+
+static void collect(host *h, uint8_t c)
+{
+    if (can_collect(h, c)) {
+        came done = box_collect(&h->box, c);
+        line_queue(&h->lines[c], h->box.reply, done.len);
+    }
+}
+
+/* The client sends no more, and nothing is left to serve, to collect or to send. */
+static bool is_finished(const host *h, uint8_t c)
+{
+    const uint8_t *bytes;
+    const line *l = &h->lines[c];
+    return l->ended && !login_is_on(&h->logins[c]) && line_untaken(l, &bytes) == 0 && line_unsent(l) == 0 && !box_due(&h->box, c);
+}
+
+static void turn_line(host *h, uint8_t c)
+{
+    serve(h, c);
+    go_on_with_login(h, c);
+    collect(h, c);
+    if (!line_write(&h->lines[c])) {
+        close_line(h, c, strerror(errno));
+    } else if (is_finished(h, c)) {
+        close_line(h, c, "the client hung up");
+    }
+}
+
+static void read_line(host *h, uint8_t c, short events)
+{
+    line *l = &h->lines[c];
+    bool reads = line_reads(l) && !login_is_on(&h->logins[c]);
+    if (events != 0 && reads && !line_read(l)) {
+        close_line(h, c, strerror(errno));
+    } else if ((events & (POLLERR | POLLHUP | POLLNVAL)) != 0 && !reads) {
+        close_line(h, c, "the client is gone");
+    }
+}
+
+/* ---- New clients */
+
+static bool prepare(int fd)
+{
+    int on = 1, queue = SYSTEM_QUEUE;
+    setsockopt(fd, SOL_SOCKET, SO_SNDBUF, &queue, sizeof queue);
+    setsockopt(fd, IPPROTO_TCP, TCP_NODELAY, &on, sizeof on);
+    setsockopt(fd, SOL_SOCKET, SO_KEEPALIVE, &on, sizeof on);
+    return fcntl(fd, F_SETFL, O_NONBLOCK) == 0 && fcntl(fd, F_SETFD, FD_CLOEXEC) == 0;
+}
+
+static void welcome(host *h, int fd, const char *peer)
+{
+    for (uint8_t c = 0; c < WELLACORN_CONNECTIONS; c++) {
+        if (!line_is_open(&h->lines[c])) {
+            open_line(h, c, fd, peer);
+            return;
+        }
+    }
+    guests_turn_away(h->guests, h->now, fd, peer);
+}
+
+/* Takes one new client. Whether there may be more. */
+static bool admit(host *h)
+{
+    struct sockaddr_storage from;
+    socklen_t len = sizeof from;
+    char peer[LINE_PEER];
+    int fd = accept(h->listener, (struct sockaddr *)&from, &len);
+    if (fd < 0 && (errno == EAGAIN || errno == EWOULDBLOCK || errno == EINTR || errno == ECONNABORTED)) {
+        return false;
+    }
+    if (fd < 0 || !prepare(fd)) {
+        say("a client could not be admitted: %s. The next try is in a second; free memory or raise `ulimit -n`", strerror(errno));
+        h->accept_after = h->now + ACCEPT_AGAIN;
+        if (fd >= 0) {
+            close(fd);
+        }
+        return false;
+    }
+    address_words(&from, peer, sizeof peer);
+    welcome(h, fd, peer);
+    return true;
+}
+
+/* ---- Waiting */
+
+static uint64_t earlier(uint64_t one, uint64_t other)
+{
+    return one < other ? one : other;
+}
+
+/* How long nothing has to be done, in ms, if nothing comes. */
+static int patience(const host *h)
+{
+    uint64_t next = h->now + LONGEST_WAIT;
+    for (uint8_t c = 0; c < WELLACORN_CONNECTIONS; c++) {
+        next = can_serve(h, c) || can_collect(h, c) ? h->now : earlier(next, login_next(&h->logins[c], h->now));
+    }
+    next = earlier(next, guests_next(h->guests));
+    next = h->options.quiet ? next : earlier(next, morning_next(&h->morning));
+    next = h->accept_after > h->now ? earlier(next, h->accept_after) : next;
+    return next <= h->now ? 0 : (int)(next - h->now);
+}
+
+static void watch(struct pollfd *place, int fd, short events)
+{
+    *place = (struct pollfd){.fd = fd, .events = events};
+}
+
+static void watch_all(const host *h, struct pollfd polled[POLLED])
+{
+    watch(&polled[AT_STOP], stop_pipe[0], POLLIN);
+    watch(&polled[AT_COMMANDS], h->commands.over ? -1 : STDIN_FILENO, POLLIN);
+    watch(&polled[AT_PRINT], say_waits() ? STDOUT_FILENO : -1, POLLOUT);
+    watch(&polled[AT_DOOR], h->accept_after > h->now ? -1 : h->listener, POLLIN);
+    for (int c = 0; c < WELLACORN_CONNECTIONS; c++) {
+        const line *l = &h->lines[c];
+        bool reads = line_is_open(l) && line_reads(l) && !login_is_on(&h->logins[c]);
+        bool writes = line_is_open(l) && line_unsent(l) > 0;
+        watch(&polled[AT_LINES + c], l->fd, (short)((reads ? POLLIN : 0) | (writes ? POLLOUT : 0)));
+    }
+    for (int i = 0; i < GUESTS; i++) {
+        watch(&polled[AT_GUESTS + i], h->guests[i].fd, POLLIN);
+    }
+}
+
+/* ---- A turn */
+
+static bool read_commands(host *h)
+{
+    const char *peers[WELLACORN_CONNECTIONS];
+    for (int c = 0; c < WELLACORN_CONNECTIONS; c++) {
+        peers[c] = line_is_open(&h->lines[c]) ? h->lines[c].peer : NULL;
+    }
+    return commands_read(&h->commands, &h->box, peers);
+}
+
+static void turn_lines(host *h, const struct pollfd polled[POLLED])
+{
+    for (uint8_t c = 0; c < WELLACORN_CONNECTIONS; c++) {
+        if (line_is_open(&h->lines[c])) {
+            read_line(h, c, polled[AT_LINES + c].revents);
+        }
+    }
+    for (uint8_t c = 0; c < WELLACORN_CONNECTIONS; c++) {
+        if (line_is_open(&h->lines[c])) {
+            turn_line(h, c);
+        }
+    }
+}
+
+static void keep_trace(box *b)
+{
+    if (b->trace != NULL && (fflush(b->trace) != 0 || ferror(b->trace))) {
+        say("the trace cannot be written any more: %s. It ends here; make room and start anew", strerror(errno));
+        fclose(b->trace);
+        b->trace = NULL;
+    }
+}
+
+/* False: the box is to end. */
+static bool turn(host *h)
+{
+    struct pollfd polled[POLLED];
+    keep_trace(&h->box);
+    say_write();
+    tell_time(h);
+    watch_all(h, polled);
+    if (poll(polled, POLLED, patience(h)) < 0) {
+        if (errno != EINTR) {
+            say("the box cannot wait for its clients: %s. Raise `ulimit -n` to 32 or more and start it again", strerror(errno));
+            h->failed = true;
+            return false;
+        }
+        memset(polled, 0, sizeof polled);       /* a signal: the pipe tells the next poll */
+    }
+    tell_time(h);
+    if (polled[AT_STOP].revents != 0 || (polled[AT_COMMANDS].revents != 0 && !read_commands(h))) {
+        return false;
+    }
+    if (!h->options.quiet) {
+        morning_turn(&h->morning, &h->box, h->now);
+    }
+    turn_lines(h, polled);
+    for (int i = 0; i < GUESTS; i++) {
+        guests_turn(&h->guests[i], h->now, polled[AT_GUESTS + i].revents != 0);
+    }
+    for (int i = 0; polled[AT_DOOR].revents != 0 && i < ADMITTED && admit(h);) {
+        i++;
+    }
+    return true;
+}
+
+/* ---- Beginning and end */
+
+static void stop(int number)
+{
+    int kept = errno;
+    (void)number;
+    if (write(stop_pipe[1], "", 1) < 0) {
+        /* it is full: the box has been told already */
+    }
+    errno = kept;
+}
+
+static bool catch_signals(void)
+{
+    struct sigaction end = {.sa_handler = stop}, ignored = {.sa_handler = SIG_IGN};
+    if (pipe(stop_pipe) != 0) {
+        return false;
+    }
+    fcntl(stop_pipe[1], F_SETFL, O_NONBLOCK);
+    return sigaction(SIGINT, &end, NULL) == 0 && sigaction(SIGTERM, &end, NULL) == 0 && sigaction(SIGPIPE, &ignored, NULL) == 0;
+}
+
+static const char *listen_advice(int error)
+{
+    switch (error) {
+    case EADDRINUSE:
+        return "Another box may be running: end it, or choose another port, for example --listen 127.0.0.1:9201";
+    case EADDRNOTAVAIL:
+        return "This machine does not have that address: choose one that it has, or 0.0.0.0 for all";
+    case EACCES:
+        return "Choose a port from 1024 on: those below are the system's";
+    default:
+        return "Choose another address after --listen";
+    }
+}
+
+static bool listen_at(host *h)
+{
+    int on = 1;
+    char words[LINE_PEER];
+    const options *o = &h->options;
+    address_words(&o->address, words, sizeof words);
+    h->listener = socket(o->address.ss_family, SOCK_STREAM, 0);
+    if (h->listener < 0 || setsockopt(h->listener, SOL_SOCKET, SO_REUSEADDR, &on, sizeof on) != 0 ||
+        bind(h->listener, (const struct sockaddr *)&o->address, o->address_len) != 0 || listen(h->listener, 16) != 0 ||
+        fcntl(h->listener, F_SETFL, O_NONBLOCK) != 0) {
+        fprintf(stderr, "boxd: cannot listen on %s: %s. %s\n", words, strerror(errno), listen_advice(errno));
+        return false;
+    }
+    return true;
+}
+
+static FILE *open_trace(const char *path)
+{
+    int fd = open(path, O_WRONLY | O_CREAT | O_TRUNC | O_CLOEXEC, S_IRUSR | S_IWUSR);
+    FILE *trace = fd < 0 ? NULL : fdopen(fd, "w");
+    if (trace == NULL) {
+        fprintf(stderr, "boxd: the trace %s cannot be written: %s. Name another file after --trace\n", path, strerror(errno));
+    }
+    return trace;
+}
+
+static void greet(const host *h)
+{
+    struct sockaddr_storage at;
+    socklen_t len = sizeof at;
+    char words[LINE_PEER];
+    getsockname(h->listener, (struct sockaddr *)&at, &len);
+    address_words(&at, words, sizeof words);
+    say("the box listens on %s", words);
+    if (h->door.users != NULL) {
+        say("clients log in: there %s %zu user%s", h->users.n == 1 ? "is" : "are", h->users.n, h->users.n == 1 ? "" : "s");
+    } else {
+        say("nobody has to log in: each client is an administrator%s",
+            h->options.loopback ? "" : ", and others than this machine reach it. --users FILE asks for a login");
+    }
+    say("%s. Commands: level K V, state, quit", h->options.quiet ? "no simulated morning" : "a simulated morning: fish rise at random");
+}
+
+/* Standard input and output are always something: no socket is to take their place. */
+static void fill_standard(void)
+{
+    int fd;
+    do {
+        fd = open("/dev/null", O_RDWR);
+    } while (fd >= 0 && fd <= STDERR_FILENO);
+    close(fd);
+}
+
+static bool begin(host *h)
+{
+    FILE *trace = NULL;
+    fill_standard();
+    if (h->options.users != NULL) {
+        if (!users_read(&h->users, h->options.users)) {
+            return false;
+        }
+        h->door.users = &h->users;
+    }
+    if (h->options.trace != NULL && (trace = open_trace(h->options.trace)) == NULL) {
+        return false;
+    }
+    for (int c = 0; c < WELLACORN_CONNECTIONS; c++) {
+        h->lines[c].fd = -1;
+    }
+    guests_begin(h->guests);
+    if (!catch_signals()) {
+        fprintf(stderr, "boxd: signals cannot be caught: %s. Raise `ulimit -n` or end other programs\n", strerror(errno));
+        return false;
+    }
+    if (!listen_at(h)) {
+        return false;
+    }
+    clock_gettime(CLOCK_MONOTONIC, &h->start);
+    box_power_up(&h->box, &h->options.settings, trace);
+    morning_begin(&h->morning, h->options.seed, 0);
+    greet(h);
+    return true;
+}
+
+static void end(host *h)
+{
+    for (uint8_t c = 0; c < WELLACORN_CONNECTIONS; c++) {
+        if (line_is_open(&h->lines[c])) {
+            line_write(&h->lines[c]);
+            close_line(h, c, "the box ends");
+        }
+    }
+    guests_end(h->guests);
+    close(h->listener);
+    keep_trace(&h->box);
+    if (h->box.trace != NULL) {
+        fclose(h->box.trace);
+    }
+    say_end();                  /* so that there is room for the last line */
+    say("the box has ended");
+    say_end();
+}
+
+int main(int argc, char **argv)
+{
+    static host h;
+    options_came came_to = options_read(&h.options, argc, argv);
+    if (came_to != OPTIONS_GOOD) {
+        return came_to == OPTIONS_HELP ? EXIT_SUCCESS : EXIT_FAILURE;
+    }
+    if (!begin(&h)) {
+        return EXIT_FAILURE;
+    }
+    while (turn(&h)) {
+    }
+    end(&h);
+    return h.failed ? EXIT_FAILURE : EXIT_SUCCESS;
+}

@@ -1,0 +1,254 @@
+/* What each message did, in words. */
+#define _POSIX_C_SOURCE 200809L
+
+#include "told.h"
+
+#include "say.h"
+
+#include <inttypes.h>
+#include <stdarg.h>
+#include <string.h>
+#include <time.h>
+
+/* ---- Words put one behind the other */
+
+typedef struct {
+    char text[640];
+    size_t n;
+} words;
+
+static void add(words *w, const char *format, ...) SAY_FORMAT(2);
+
+static void add(words *w, const char *format, ...)
+{
+    va_list args;
+    va_start(args, format);
+    int n = vsnprintf(w->text + w->n, sizeof w->text - w->n, format, args);
+    va_end(args);
+    if (n > 0) {
+        size_t left = sizeof w->text - 1 - w->n;
+        w->n += (size_t)n < left ? (size_t)n : left;
+    }
+}
+
+/* ---- Fields */
+
+static unsigned two_at(const uint8_t *p)
+{
+    return (unsigned)p[0] << 8 | p[1];
+}
+
+static uint64_t eight_at(const uint8_t *p)
+{
+    uint64_t x = 0;
+    for (int i = 0; i < 8; i++) {
+        x = x << 8 | p[i];
+    }
+    return x;
+}
+
+/* A clock reading: a date as long as the year has four digits, else the number. */
+static void add_clock(words *w, uint64_t ms)
+{
+    const uint64_t year_10000 = 253402300800u;
+    time_t seconds = (time_t)(ms / 1000 < year_10000 ? ms / 1000 : 0);
+    struct tm date;
+    char text[40];
+    if (ms / 1000 < year_10000 && gmtime_r(&seconds, &date) != NULL && strftime(text, sizeof text, "%Y-%m-%d %H:%M:%S", &date) > 0) {
+        add(w, "%s.%03u GMT", text, (unsigned)(ms % 1000));
+    } else {
+        add(w, "%" PRIu64 " ms", ms);
+    }
+}
+
+/* ---- Messages that were served. Their layout is right: the box has judged it. */
+
+static void add_request(words *w, const uint8_t *content)
+{
+    static const char *const requests[] = {
+        "asked for the clock", "asked for a Monitor message", "asked for the usages", "", "turned its Monitor messages off",
+        "turned its Monitor messages on",
+    };
+    unsigned request = two_at(content + 1);
+    add(w, "%s", request < sizeof requests / sizeof requests[0] ? requests[request] : "asked");
+}
+
+static void add_command(words *w, const uint8_t *content)
+{
+    unsigned channel = two_at(content + 2);
+    switch (content[1]) {
+    case 1:
+        add(w, "commanded relay %u closed", channel);
+        break;
+    case 2:
+        add(w, "commanded relay %u open", channel);
+        break;
+    case 3:
+        add(w, "toggled relay %u", channel);
+        break;
+    case 5:
+        add(w, "cleared the count of input %u", channel);
+        break;
+    case 8:
+        add(w, "cleared the usage of input %u", channel);
+        break;
+    case 9:
+        add(w, "cleared the usage of relay %u", channel);
+        break;
+    default:
+        add(w, "commanded a block of relays, mask %02X state %02X", content[2], content[3]);
+    }
+}
+
+static void add_served(words *w, const box *b, const uint8_t *content)
+{
+    const uint8_t *reply = b->reply + 5;    /* the content of the reply, of those that have one */
+    switch (content[0]) {
+    case 5:
+        add_request(w, content);
+        break;
+    case 7:
+        add(w, "set the clock to ");
+        add_clock(w, eight_at(content + 1));
+        break;
+    case 10:
+        add_command(w, content);
+        break;
+    case 21:
+        add(w, "read %u devices", two_at(content + 1));
+        break;
+    case 23:
+        add(w, "wrote %u of %u devices", two_at(reply + 1), two_at(content + 1));
+        break;
+    case 26:
+        add(w, "listed the devices: %u", two_at(reply + 2));
+        break;
+    default:
+        add(w, "sent a message of type %u, served", content[0]);
+    }
+}
+
+/* Which relays really changed. */
+static void add_changes(words *w, const wellacorn_board *before, const wellacorn_board *after)
+{
+    for (int k = 0; k < WELLACORN_CHANNELS; k++) {
+        bool closed = after->plain.tables.relays[k].closed;
+        if (closed != before->plain.tables.relays[k].closed) {
+            add(w, "; relay %d is %s now", k + 1, closed ? "closed" : "open");
+        }
+    }
+}
+
+/* ---- Messages that were refused: why, and what to do about it */
+
+static void add_refused(words *w, const uint8_t *content, size_t n, uint8_t answer)
+{
+    if (n == 0) {
+        add(w, "sent an empty message; refused (%u): ", answer);
+    } else {
+        add(w, "sent a message of type %u; refused (%u): ", content[0], answer);
+    }
+    switch (answer) {
+    case WELLACORN_BAD_CHECKSUM:
+        add(w, "its checksum differs. The link is noisy, or the sender reckons it wrongly");
+        break;
+    case WELLACORN_NOT_OFFERED:
+        add(w, "%s", n == 0 ? "it has no type" : "this box does not offer it");
+        break;
+    case WELLACORN_LOW_RANK:
+        add(w, "its rank is too low. %s", content[0] == 7 ? "An administrator has to log in" : "Somebody has to log in first");
+        break;
+    case WELLACORN_BAD_LENGTH:
+        add(w, "its length is not that of the layout");
+        break;
+    default:
+        add(w, "an action, request, channel or flag is out of range");
+    }
+}
+
+/* ---- A call */
+
+static void told_message(const box *b, const wellacorn_board *before, uint8_t c, came done)
+{
+    words w = {.n = 0};
+    const uint8_t *content;
+    size_t n = box_content(b, before, c, done, &content);
+    if (done.answer == WELLACORN_SERVED) {
+        add_served(&w, b, content);
+        add_changes(&w, before, &b->board);
+    } else if (done.answer == WELLACORN_TOO_LONG) {
+        add(&w, "sent a message of %zu bytes, swallowed (6): the longest is 1,024", before->halves[c].got + done.taken - 5);
+    } else {
+        add_refused(&w, content, n, done.answer);
+    }
+    say("connection %u %s", c, w.text);
+}
+
+void told_bytes(heard *h, const box *b, const wellacorn_board *before, uint8_t c, came done)
+{
+    if (done.answer == WELLACORN_WAITING) {
+        return;
+    }
+    h->strays += done.answer == WELLACORN_STRAY;
+    h->keep_alives += done.answer == WELLACORN_KEEP_ALIVE;
+    if (done.answer != WELLACORN_STRAY && done.answer != WELLACORN_KEEP_ALIVE) {
+        told_rest(h, c);
+        told_message(b, before, c, done);
+    }
+}
+
+void told_rest(heard *h, uint8_t c)
+{
+    if (h->strays > 0) {
+        say("connection %u sent %lu stray byte%s, ignored (5): they begin no message", c, h->strays, h->strays == 1 ? "" : "s");
+    }
+    if (h->keep_alives > 0) {
+        say("connection %u is there still: %lu keep-alive%s (2)", c, h->keep_alives, h->keep_alives == 1 ? "" : "s");
+    }
+    h->strays = h->keep_alives = 0;
+}
+
+const char *told_rank(uint8_t rank)
+{
+    return rank == 2 ? "administrator" : rank == 1 ? "user" : "not logged in";
+}
+
+/* ---- All that the box holds */
+
+static const char *alarm_word(bool on, const char *word)
+{
+    return on ? word : "";
+}
+
+static void told_input(int k, const wellacorn_input *in)
+{
+    say("state: input %d %s, count %" PRIu32 ", usage %" PRIu64 " ms%s%s%s%s", k, in->level ? "on" : "off", in->count, in->usage,
+        alarm_word(in->alarm && in->level, ", alarm"), alarm_word(in->setpoint_one > 0 && in->count > in->setpoint_one, ", count alarm 1"),
+        alarm_word(in->setpoint_two > 0 && in->count > in->setpoint_two, ", count alarm 2"),
+        alarm_word(in->usage_setpoint > 0 && in->usage >= in->usage_setpoint, ", usage alarm"));
+}
+
+void told_state(const box *b, const char *const peers[WELLACORN_CONNECTIONS])
+{
+    const wellacorn_tables *t = &b->board.plain.tables;
+    words clock = {.n = 0};
+    add_clock(&clock, t->clock);
+    say("state: clock %" PRIu64 " ms, %s", t->clock, clock.text);
+    for (int k = 0; k < WELLACORN_CHANNELS; k++) {
+        told_input(k + 1, &t->inputs[k]);
+    }
+    for (int k = 0; k < WELLACORN_CHANNELS; k++) {
+        const wellacorn_relay *r = &t->relays[k];
+        say("state: relay %d %s, usage %" PRIu64 " ms%s", k + 1, r->closed ? "closed" : "open", r->usage,
+            alarm_word(r->usage_setpoint > 0 && r->usage >= r->usage_setpoint, ", usage alarm"));
+    }
+    for (int c = 0; c < WELLACORN_CONNECTIONS; c++) {
+        const wellacorn_line *l = &b->board.plain.lines[c];
+        if (peers[c] == NULL) {
+            say("state: connection %d is free", c);
+        } else {
+            say("state: connection %d is %s, %s, Monitor %s, %" PRIu32 " bytes of a message read", c, peers[c], told_rank(l->rank),
+                l->monitor ? "on" : "off", b->board.halves[c].got);
+        }
+    }
+}

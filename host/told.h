@@ -1,0 +1,25 @@
+/* What each message did, in words. Stray bytes and keep-alives that come one behind the other make one line. */
+#ifndef TOLD_H
+#define TOLD_H
+
+#include "box.h"
+
+/* What has been heard on a connection and not been told yet. */
+typedef struct {
+    unsigned long strays;
+    unsigned long keep_alives;
+} heard;
+
+/* A call of box_bytes on connection c has come to `done`; `before` is the board before it. */
+void told_bytes(heard *h, const box *b, const wellacorn_board *before, uint8_t c, came done);
+
+/* Tells what is left to tell. */
+void told_rest(heard *h, uint8_t c);
+
+/* A rank in words. */
+const char *told_rank(uint8_t rank);
+
+/* Prints all that the box holds, a few lines. */
+void told_state(const box *b, const char *const peers[WELLACORN_CONNECTIONS]);
+
+#endif

@@ -1,0 +1,311 @@
+"""What the tests of the host share: the running host, a client of its own, and the trace held to the model.
+
+Nothing here waits for a fixed time.  A wait ends with what is waited for, or fails after PATIENCE.
+"""
+
+import os
+import re
+import select
+import socket
+import subprocess
+import tempfile
+import threading
+import time
+
+from model import Box, SERVED, NOT_OFFERED, crc16, field, number
+
+ROOT = os.path.dirname(os.path.dirname(os.path.abspath(__file__)))
+PATIENCE = 60.0                         # s; only a fault waits so long
+PROGRAM = os.environ.get("BOXD", "boxd")        # boxd-san tries the build with sanitizers
+
+
+def frame(content):
+    return b"\x01" + field(len(content), 2) + field(crc16(content), 2) + content
+
+
+def string(text):
+    return bytes([len(text)]) + text
+
+
+def login(name, password):
+    return frame(b"\x7E" + string(name) + string(password))
+
+
+CLOCK = frame(b"\x05\x00\x00")
+MONITOR = frame(b"\x05\x00\x01")
+
+
+# ---------------------------------------------------------------------------------------------
+# A program that prints lines
+# ---------------------------------------------------------------------------------------------
+
+class Program:
+    """A program that runs; its lines are read as they come, so that it never waits for us."""
+
+    def __init__(self, words, **more):
+        self.process = subprocess.Popen(words, stdin=subprocess.PIPE, stdout=subprocess.PIPE, stderr=subprocess.STDOUT, **more)
+        self.lines = []
+        self.over = self.finished = False
+        self.came = threading.Condition()
+        self.reader = threading.Thread(target=self.read, daemon=True)
+        self.reader.start()
+
+    def read(self):
+        for line in self.process.stdout:
+            with self.came:
+                self.lines.append(line.decode("latin-1").rstrip("\n"))
+                self.came.notify_all()
+        with self.came:
+            self.over = True
+            self.came.notify_all()
+
+    def find(self, pattern, start=0):
+        for line in self.lines[start:]:
+            found = re.search(pattern, line)
+            if found:
+                return found
+        return None
+
+    def wait_for(self, pattern, start=0):
+        """The first line from `start` on that fits."""
+        with self.came:
+            self.came.wait_for(lambda: self.over or self.find(pattern, start), PATIENCE)
+            found = self.find(pattern, start)
+        if not found:
+            raise AssertionError(f"no line {pattern!r} in:\n" + "\n".join(self.lines[-30:]))
+        return found
+
+    def count(self, pattern):
+        return sum(1 for line in list(self.lines) if re.search(pattern, line))
+
+    def tell(self, line):
+        self.process.stdin.write(line.encode() + b"\n")
+        self.process.stdin.flush()
+
+    def ended(self):
+        """Waits for its end; the exit status."""
+        status = self.process.wait(PATIENCE)
+        self.finished = True
+        self.reader.join(PATIENCE)
+        self.process.stdin.close()
+        self.process.stdout.close()
+        return status
+
+    def __enter__(self):
+        return self
+
+    def __exit__(self, *why):
+        if self.process.poll() is None:
+            self.process.kill()
+        if not self.finished:
+            try:
+                self.ended()
+            except BrokenPipeError:
+                pass
+
+
+class Boxd(Program):
+    """The host, on a free port unless one is given.  `trace`: each call is written down, for `judge`."""
+
+    def __init__(self, *words, trace=False, port=0, program=None):
+        self.trace = tempfile.mktemp(prefix="boxd-trace-") if trace else None
+        self.begun = time.monotonic()
+        more = ["--trace", self.trace] if trace else []
+        super().__init__([os.path.join(ROOT, "host", "exec"), program or PROGRAM, "--listen", f"127.0.0.1:{port}", *words, *more])
+        self.port = int(self.wait_for(r"listens on 127\.0\.0\.1:(\d+)").group(1))
+        self.up = time.monotonic()
+
+    def quit(self):
+        self.quit_at = time.monotonic()
+        self.tell("quit")
+        status = self.ended()
+        self.end_at = time.monotonic()
+        if status != 0:
+            raise AssertionError(f"the host ended with {status}:\n" + "\n".join(self.lines[-30:]))
+
+    def __exit__(self, *why):
+        super().__exit__(*why)
+        if self.trace and os.path.exists(self.trace):
+            os.remove(self.trace)
+
+
+# ---------------------------------------------------------------------------------------------
+# A client
+# ---------------------------------------------------------------------------------------------
+
+class Client:
+    """An ordinary client.  `sent` and `got` hold all bytes of its connection."""
+
+    def __init__(self, port, small=False):
+        self.socket = socket.socket()
+        self.socket.settimeout(PATIENCE)
+        if small:                               # little is kept for us while we do not read
+            self.socket.setsockopt(socket.SOL_SOCKET, socket.SO_RCVBUF, 4096)
+        self.socket.connect(("127.0.0.1", port))
+        self.socket.setsockopt(socket.IPPROTO_TCP, socket.TCP_NODELAY, 1)
+        self.port = self.socket.getsockname()[1]
+        self.sent = bytearray()
+        self.got = bytearray()
+        self.read_to = 0
+
+    def send(self, data):
+        self.sent += data
+        self.socket.sendall(data)
+
+    def more(self):
+        """Reads something; False at the end."""
+        data = self.socket.recv(65536)
+        self.got += data
+        return bool(data)
+
+    def next(self):
+        """The content of the next frame; None at the end."""
+        while True:
+            have = self.got[self.read_to:self.read_to + 5]
+            size = 5 + number(have[1:3])
+            if len(have) == 5 and len(self.got) >= self.read_to + size:
+                whole = bytes(self.got[self.read_to:self.read_to + size])
+                self.read_to += size
+                assert whole[0] == 1 and number(whole[3:5]) == crc16(whole[5:]), whole.hex()
+                return whole[5:]
+            if not self.more():
+                return None
+
+    def contents(self):
+        """The contents of all frames that have come whole."""
+        at = 0
+        while at < len(self.got):
+            size = 5 + number(self.got[at + 1:at + 3])
+            yield bytes(self.got[at + 5:at + size])
+            at += size
+
+    def next_of(self, kind):
+        """The next content of a type; others are passed over."""
+        while True:
+            content = self.next()
+            if content is None or content[0] == kind:
+                return content
+
+    def ask(self, message, kind):
+        self.send(message)
+        return self.next_of(kind)
+
+    def clock(self):
+        return number(self.ask(CLOCK, 6)[1:])
+
+    def waits(self):
+        """Whether something has come that was not read."""
+        return bool(select.select([self.socket], [], [], 0)[0])
+
+    def finish(self):
+        """Says that it sends no more, and reads to the end."""
+        self.socket.shutdown(socket.SHUT_WR)
+        while self.more():
+            pass
+        self.socket.close()
+
+    def talk(self, stream, rng, longest):
+        """Sends a stream in pieces cut at random, reading all the while, and finishes."""
+        self.socket.setblocking(False)
+        at = 0
+        while at < len(stream):
+            size = rng.choice((1, 2, 5, 6, rng.randrange(1, longest)))
+            readable, writable, _ = select.select([self.socket], [self.socket], [], PATIENCE)
+            assert readable or writable, "the host neither reads nor writes"
+            if readable:
+                self.more()
+            if writable:
+                try:
+                    done = self.socket.send(stream[at:at + size])
+                except BlockingIOError:
+                    done = 0
+                self.sent += stream[at:at + done]
+                at += done
+        self.socket.settimeout(PATIENCE)
+        self.finish()
+
+    def close(self):
+        self.socket.close()
+
+    def __enter__(self):
+        return self
+
+    def __exit__(self, *why):
+        self.close()
+
+
+# ---------------------------------------------------------------------------------------------
+# The trace, held to the model
+# ---------------------------------------------------------------------------------------------
+
+class Session:
+    """What the trace says of one opening of a connection."""
+
+    def __init__(self):
+        self.taken = bytearray()
+        self.replies = bytearray()
+
+
+def login_answer(content):
+    """Without a users file: 0x80 to a LoginRequest of 001's layout, else 0xFF."""
+    strings = content[1:]
+    for _ in range(2):
+        if not strings or strings[0] > len(strings) - 1:
+            return frame(b"\x7D\xFF")
+        strings = strings[1 + strings[0]:]
+    return frame(b"\x7D\xFF" if strings else b"\x7D\x80")
+
+
+class Played:
+    """The trace of a host without a users file, played to the model: sessions, and the model at the end."""
+
+    def __init__(self, path):
+        self.box = Box()
+        self.sessions = []
+        self.passed = 0
+        self.rises = {}                         # when each input was first told on, in ms
+        self.answers = {}
+        self.current = [None] * 4
+        with open(path, encoding="ascii") as lines:
+            for line in lines:
+                self.play(*line.rstrip("\n").split(" "))
+
+    def play(self, name, *words):
+        if name == "bytes":
+            self.bytes(int(words[0]), b"" if words[2] == "-" else bytes.fromhex(words[2]))
+        elif name == "collect":
+            answer, reply = self.box.collect(int(words[0]), int(words[1]))
+            assert answer == SERVED, "collected though nothing was due"
+            self.current[int(words[0])].replies += reply
+        else:
+            if name == "open":
+                self.current[int(words[0])] = Session()
+                self.sessions.append(self.current[int(words[0])])
+            self.passed += int(words[0]) if name == "pass" else 0
+            if name == "level" and words[1] == "1":
+                self.rises.setdefault(int(words[0]), self.passed)
+            assert self.box.line(" ".join((name,) + words)) in ("1", "11"), (name, words)
+
+    def bytes(self, c, piece):
+        joined = bytes(self.box.connections[c].joined) + piece
+        answer, taken, reply = self.box.bytes_(c, 4096, piece)
+        assert taken == len(piece) > 0, "the box took other bytes than the model"
+        self.answers[answer] = self.answers.get(answer, 0) + 1
+        self.current[c].taken += piece
+        self.current[c].replies += reply
+        if answer == NOT_OFFERED and len(joined) > 5 and joined[5] == 126:
+            self.current[c].replies += login_answer(joined[5:])
+
+
+def judge(host, clients):
+    """Holds what each client sent and got to the trace and the model.  Gives what was played."""
+    played = Played(host.trace)
+    ports = [int(found.group(1)) for found in (re.search(r"connection \d: 127\.0\.0\.1:(\d+) connected", line) for line in host.lines)
+             if found]
+    assert len(ports) == len(played.sessions)
+    of_port = dict(zip(ports, played.sessions))
+    for client in clients:
+        session = of_port[client.port]
+        assert client.sent == session.taken, f"sent {len(client.sent)} bytes, the box took {len(session.taken)} or others"
+        assert client.got == session.replies, f"got {len(client.got)} bytes, the model replies {len(session.replies)} or others"
+    return played

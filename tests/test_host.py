@@ -1,0 +1,657 @@
+#!/usr/bin/env python3
+"""The reference host over loopback, tried by a client of its own.  Every reply is compared with the model's.
+
+    python3 tests/test_host.py              over target/host/boxd
+    BOXD=boxd-san python3 tests/test_host.py    over the build with sanitizers
+
+Seeds are fixed, ports are free ones, and nothing waits for a fixed time but what is slowed down on purpose.
+"""
+
+import base64
+import hashlib
+import hmac
+import os
+import random
+import signal
+import socket
+import subprocess
+import sys
+import tempfile
+import threading
+import time
+import unittest
+
+import traces
+from boxd import Boxd, CLOCK, Client, MONITOR, PATIENCE, PROGRAM, Program, ROOT, frame, judge, login, string
+from model import Box, INPUT_IDS, RELAY_IDS, field, number
+
+sys.path.insert(0, os.path.join(ROOT, "host"))
+import adduser                                                                                      # noqa: E402
+
+SETTINGS = "3 7 900 1 " * 8 + "500 " * 8            # alarms that a short test reaches
+
+
+def settings_file(folder):
+    path = os.path.join(folder, "settings")
+    with open(path, "w", encoding="ascii") as file:
+        file.write(SETTINGS)
+    return path
+
+
+def run_all(*works):
+    """Runs them at once; the first fault of any is raised."""
+    faults = []
+
+    def run(work):
+        try:
+            work()
+        except BaseException as fault:              # noqa: B902
+            faults.append(fault)
+
+    threads = [threading.Thread(target=run, args=(work,)) for work in works]
+    for thread in threads:
+        thread.start()
+    for thread in threads:
+        thread.join()
+    if faults:
+        raise faults[0]
+
+
+class Case(unittest.TestCase):
+    def setUp(self):
+        self.folder = tempfile.TemporaryDirectory()
+        self.begun = time.monotonic()
+
+    def tearDown(self):
+        self.folder.cleanup()
+        print(f"    {time.monotonic() - self.begun:5.1f} s  {self.id().split('.', 1)[1]}", flush=True)
+
+    def users_file(self, *lines):
+        path = os.path.join(self.folder.name, "users")
+        with open(path, "w", encoding="latin-1", newline="") as file:
+            file.write("".join(line + "\n" for line in lines))
+        os.chmod(path, 0o600)
+        return path
+
+    def refused(self, *words):
+        """Starts the host, which must not start; what it says."""
+        with Program([os.path.join(ROOT, "host", "exec"), PROGRAM, *words]) as program:
+            self.assertEqual(program.ended(), 1)
+            self.assertFalse(program.find("listens on"))
+            return "\n".join(program.lines)
+
+
+# ---------------------------------------------------------------------------------------------
+# Many clients at once
+# ---------------------------------------------------------------------------------------------
+
+class Clients(Case):
+    def stream(self, seed, messages):
+        maker = traces.Maker(seed)
+        return b"".join(maker.message() for _ in range(messages))
+
+    def one_client(self, host, clients, seed):
+        """Three connections, one after the other.  Each may break off within a message."""
+        rng = random.Random(seed)
+        for part in range(3):
+            stream = self.stream(f"{seed}/{part}", 500)
+            if part == 1:
+                stream = stream[:len(stream) - rng.randrange(1, 9)]
+            client = Client(host.port)
+            clients.append(client)
+            client.talk(stream, rng, rng.choice((40, 400, 3000)))
+
+    def lifts(self, host, seed, n):
+        rng = random.Random(seed)
+        for _ in range(n):
+            host.tell(f"level {rng.randrange(1, 9)} {rng.randrange(2)}")
+
+    def test_four_at_once_cut_and_joined(self):
+        """Bytes of four connections, cut at random and joined: each client gets what the model replies, no byte more or less."""
+        clients = []
+        with Boxd("--quiet", "--settings", settings_file(self.folder.name), trace=True) as host:
+            run_all(*[lambda seed=seed: self.one_client(host, clients, f"four/{seed}") for seed in range(4)],
+                    lambda: self.lifts(host, "lifts", 1000))
+            host.quit()
+            played = judge(host, clients)
+        self.assertEqual(len(clients), 12)
+        for answer in (0, 1, 2, 5, 6, 7, 8, 10, 11):
+            self.assertIn(answer, played.answers)
+
+    def test_slow_reader(self):
+        """A client that does not read is not read from; the others notice nothing, and it loses no reply."""
+        ids = (INPUT_IDS + RELAY_IDS) * 7 + INPUT_IDS[:6] * 2
+        message = frame(b"\x15" + field(len(ids), 2) + b"".join(field(id, 8) for id in ids))
+        with Boxd("--quiet", trace=True) as host, Client(host.port, small=True) as slow, Client(host.port) as quick:
+            sender = threading.Thread(target=slow.send, args=(message * 1000,))
+            sender.start()
+            self.stands_still(host, quick)
+            self.assertLess(host.count("connection 0 read"), 500)
+            reader = threading.Thread(target=self.read_replies, args=(slow, 1000))
+            reader.start()
+            sender.join(PATIENCE)
+            reader.join(PATIENCE)
+            slow.finish()
+            quick.finish()
+            host.quit()
+            judge(host, [slow, quick])
+        self.assertEqual(slow.got.count(frame(b"\x16")[5:] + field(len(ids), 2)), 1000)
+
+    def stands_still(self, host, quick):
+        """Asks on the quick connection until the slow one has not been served for 200 answers."""
+        still = served = 0
+        while still < 10:
+            for _ in range(20):
+                quick.clock()
+            now = host.count("connection 0 read")
+            still = still + 1 if now == served > 0 else 0
+            served = now
+
+    def read_replies(self, client, n):
+        for _ in range(n):
+            client.next_of(22)
+
+    def test_strays_and_oversize_frames(self):
+        """Floods of bytes that are no message do not hinder another client, and are told in few lines."""
+        rng = random.Random("flood")
+        strays = bytes(rng.choice((0x00, 0x02, 0x07, 0x80, 0xFE, 0xFF)) for _ in range(20000))
+        oversize = b"".join(b"\x01" + field(size, 2) + b"\xFF\xFF" + bytes([rng.choice((0x01, 0x06, 0x55))]) * size
+                            for size in (1025, 65535, 4096, 32768, 65535, 1025) * 5)
+        with Boxd("--quiet", trace=True) as host, Client(host.port) as other:
+            floods = [Client(host.port) for _ in range(3)]
+            run_all(lambda: floods[0].talk(strays + MONITOR, rng, 5000),
+                    lambda: floods[1].talk(oversize + CLOCK, random.Random("1"), 9000),
+                    lambda: floods[2].talk(strays[:9000] + oversize + MONITOR, random.Random("2"), 700),
+                    lambda: [other.clock() for _ in range(100)])
+            other.finish()
+            host.quit()
+            played = judge(host, floods + [other])
+            self.assertLess(host.count("stray bytes"), 9000)
+        self.assertEqual(played.answers[6], 60)
+        self.assertGreaterEqual(played.answers[5], 29000)
+
+    def test_fifth_client(self):
+        """The fifth is told so, in the protocol's own words, and closed; the four go on; a place that is left is given again."""
+        with Boxd("--quiet", trace=True) as host:
+            four = [Client(host.port) for _ in range(4)]
+            for client in four:
+                client.clock()
+            for greeting in (b"", CLOCK * 50):
+                with Client(host.port) as fifth:
+                    fifth.send(greeting)
+                    told = fifth.next()
+                    self.assertEqual(told[0], 3)
+                    self.assertEqual(told[-2:], b"\n\x00")
+                    self.assertIn(b"All four connections", told)
+                    self.assertIsNone(fifth.next())
+            four[2].finish()
+            host.wait_for("connection 2 closed")
+            with Client(host.port) as sixth:
+                sixth.clock()
+                for client in four[:2] + four[3:] + [sixth]:
+                    client.clock()
+                    client.finish()
+                host.quit()
+                judge(host, four + [sixth])
+
+    def test_half_a_message_then_hang_up(self):
+        """Its half is dropped: the next client of that connection begins afresh."""
+        message = frame(b"\x0A\x01\x00\x03")
+        with Boxd("--quiet", trace=True) as host:
+            clients = []
+            for cut in range(1, len(message)):
+                client = Client(host.port)
+                clients.append(client)
+                client.send(MONITOR + message[:cut])
+                if cut % 2:
+                    client.finish()
+                else:                               # without a word: what the box still had to say is lost with it
+                    client.next()
+                    client.close()
+                host.wait_for(f"connection 0 closed: .*{cut} bytes of an unfinished message were dropped")
+            with Client(host.port) as last:
+                last.send(message)
+                last.finish()
+            host.quit()
+            judge(host, clients[0::2] + [last])
+            self.assertEqual(host.count("relay 3 is closed now"), 1)
+
+    def test_kill_and_restart(self):
+        """A killed host leaves no trouble behind: it starts again on its port at once, as after power-up."""
+        with Boxd("--quiet") as host:
+            client = Client(host.port)
+            host.tell("level 2 1")
+            client.send(frame(b"\x0A\x01\x00\x01"))
+            host.wait_for("relay 1 is closed now")
+            host.process.kill()
+            self.assertEqual(host.ended(), -signal.SIGKILL)
+            with self.assertRaises((ConnectionError, AssertionError)):
+                while True:
+                    self.assertIsNotNone(client.next())
+            client.close()
+        with Boxd("--quiet", port=host.port) as again, Client(host.port) as client:
+            content = client.ask(MONITOR, 1)
+            self.assertEqual(content[17:89], bytes(72))
+        for number_, word in ((signal.SIGTERM, "SIGTERM"), (signal.SIGINT, "SIGINT")):
+            with Boxd("--quiet", port=host.port) as ended, Client(host.port) as client, self.subTest(word):
+                client.clock()
+                ended.process.send_signal(number_)
+                self.assertEqual(ended.ended(), 0)
+                self.assertTrue(ended.find("the box has ended"))
+                self.assertIsNone(client.next_of(99))
+
+
+# ---------------------------------------------------------------------------------------------
+# Time, inputs, commands
+# ---------------------------------------------------------------------------------------------
+
+class Events(Case):
+    def test_monitor_when_due(self):
+        """A change comes to every client that has Monitor on, without being asked for."""
+        with Boxd("--quiet", trace=True) as host, Client(host.port) as one, Client(host.port) as two:
+            for client in (one, two):
+                self.assertEqual(client.next()[0], 1)
+            two.send(frame(b"\x05\x00\x04") + CLOCK)
+            two.next_of(6)
+            for k, count in ((3, 1), (3, 1), (8, 1), (3, 2)):
+                before = len(host.lines)
+                host.tell(f"level {k} {1 - self.level_of(one, k)}")
+                host.wait_for(f"input {k} is ", before)
+            self.assertFalse(two.waits())
+            one.finish()
+            two.finish()
+            host.quit()
+            judge(host, [one, two])
+        self.assertGreater(one.got.count(b"jr310"), 4)
+
+    def level_of(self, client, k):
+        return client.ask(MONITOR, 1)[17 + 8 * (k - 1)]
+
+    def test_time(self):
+        """The clock goes as the monotonic clock does, through thousands of messages: no ms is lost or counted twice."""
+        with Boxd("--quiet", trace=True) as host, Client(host.port) as client:
+            asked = []
+            for turns, rest in ((700, 0), (15, 0.02), (700, 0), (0, 0)):            # busy, at rest between, busy
+                before = time.monotonic()
+                reading = client.clock()
+                asked.append((before, time.monotonic(), reading))
+                for _ in range(turns):
+                    time.sleep(rest)
+                    client.clock()
+            for (sent, got, reading), (sent_, got_, reading_) in zip(asked, asked[1:]):
+                self.assertLessEqual((sent_ - got) * 1000 - 2, reading_ - reading)
+                self.assertLessEqual(reading_ - reading, (got_ - sent) * 1000 + 2)
+            client.finish()
+            host.quit()
+            passed = judge(host, [client]).passed
+        self.assertLessEqual((host.quit_at - host.up) * 1000 - 2, passed)
+        self.assertLessEqual(passed, (host.end_at - host.begun) * 1000 + 2)
+
+    def test_commands(self):
+        """`level`, `state` and `quit`, and lines that are none.  What `state` prints is what the model holds."""
+        with Boxd("--quiet", "--settings", settings_file(self.folder.name), trace=True) as host, Client(host.port) as client:
+            client.send(frame(b"\x0A\x0A\x81\x81"))
+            for line, said in (("level 1 1", "input 1 is on: 1 counted"), ("level 1 1", "input 1 was on already"),
+                               ("  level\t8   1 ", "input 8 is on"), ("level 1 0", "input 1 is off: 1 counted"),
+                               ("level 9 1", r"level refused \(11\): write"), ("level 1 2", r"level refused \(11\)"),
+                               ("level x y", r"level refused \(11\)"), ("level 1", "no such command: write"),
+                               ("stat", "no such command"), ("x" * 5000, "a line that long")):
+                before = len(host.lines)
+                host.tell(line)
+                host.wait_for(said, before)
+            client.clock()
+            host.tell("\n\nstate\nlevel 5 0")
+            host.wait_for("input 5 was off already")
+            client.finish()
+            host.quit()
+            box = judge(host, [client]).box
+            for k in range(8):
+                self.assertTrue(host.find(f"state: input {k + 1} {'on' if box.inputs[k].level else 'off'}, count {box.inputs[k].count}, "))
+                self.assertTrue(host.find(f"state: relay {k + 1} {'closed' if box.relays[k].state else 'open'}, usage "))
+            self.assertTrue(host.find(r"state: connection 0 is 127\.0\.0\.1:\d+, administrator, Monitor on, 0 bytes"))
+            self.assertTrue(host.find("state: connection 3 is free"))
+
+    def test_without_standard_input(self):
+        """The end of standard input ends the commands, not the box."""
+        with Boxd("--quiet") as host, Client(host.port) as client:
+            host.process.stdin.close()
+            client.clock()
+            host.process.terminate()
+            self.assertEqual(host.ended(), 0)
+
+    def test_output_that_nobody_reads(self):
+        """Standard output that is not read delays no client; lines are left out, and that is said."""
+        words = [os.path.join(ROOT, "host", "exec"), PROGRAM, "--quiet", "--listen", "127.0.0.1:0"]
+        process = subprocess.Popen(words, stdin=subprocess.PIPE, stdout=subprocess.PIPE)
+        try:
+            port = int(process.stdout.readline().decode().rsplit(":", 1)[1])
+            with Client(port) as client:
+                client.talk(frame(b"\x05\x00\x00") * 9000, random.Random("unread"), 3000)
+                self.assertEqual([content[0] for content in client.contents()].count(6), 9000)
+            process.terminate()
+            printed = process.stdout.read().decode()
+            self.assertEqual(process.wait(PATIENCE), 0)
+            self.assertTrue("lines were left out here" in printed)
+            self.assertTrue("the box has ended" in printed.rsplit("\n", 2)[1])
+        finally:
+            process.kill()
+            process.wait()
+            process.stdin.close()
+            process.stdout.close()
+
+    def test_morning(self):
+        """Fish rise at random; what is printed, what the clients get and what the model counts agree.  A seed fixes when each lift has
+        its first: the host may be late where the machine is busy, never early."""
+        with Boxd("--seed", "105", trace=True) as host, Client(host.port) as client:
+            while host.count("fish on lift") < 4:
+                client.next_of(1)
+            client.finish()
+            host.quit()
+            played = judge(host, [client])
+            self.assertEqual(sum(inp.count for inp in played.box.inputs), host.count("fish on lift"))
+        due = self.first_fish(105)
+        self.assertGreaterEqual(len(played.rises), 4)
+        for k, at in played.rises.items():
+            self.assertGreaterEqual(at, due[k - 1])
+
+    def first_fish(self, seed):
+        """The times in ms that host/morning.c draws."""
+        state, times = (seed * 0x9E3779B97F4A7C15) % 2 ** 64 | 1, []
+        for _ in range(16):
+            state ^= (state << 13) % 2 ** 64
+            state ^= state >> 7
+            state ^= (state << 17) % 2 ** 64
+            times.append((state >> 32) % 7500)
+        return times[1::2]
+
+
+# ---------------------------------------------------------------------------------------------
+# Hashes and users
+# ---------------------------------------------------------------------------------------------
+
+class Hashes(Case):
+    def test_against_python(self):
+        """SHA-256, HMAC and PBKDF2 in C give what Python's give, at every length around a block's edge."""
+        rng = random.Random("hashes")
+        asked, expected = [], []
+        hexed = lambda data: data.hex() or "-"                                                      # noqa: E731
+        for size in list(range(0, 200)) + [255, 256, 1000, 4096]:
+            data = rng.randbytes(size)
+            asked.append(f"sha256 {hexed(data)}")
+            expected.append(hashlib.sha256(data).hexdigest())
+            key = rng.randbytes(rng.choice((0, 1, 31, 63, 64, 65, 130)))
+            asked.append(f"hmac {hexed(key)} {hexed(data)}")
+            expected.append(hmac.new(key, data, "sha256").hexdigest())
+        for size in (0, 1, 8, 63, 64, 65, 127, 255):
+            for iterations in (1, 2, 3, 7, 8, 1000, 5003):
+                secret, salt = rng.randbytes(size), rng.randbytes(rng.choice((8, 16, 33, 64)))
+                asked.append(f"pbkdf2 {hexed(secret)} {hexed(salt)} {iterations}")
+                expected.append(hashlib.pbkdf2_hmac("sha256", secret, salt, iterations).hex())
+        program = PROGRAM.replace("boxd", "hashes")
+        done = subprocess.run([os.path.join(ROOT, "host", "exec"), program], input="\n".join(asked) + "\n", text=True,
+                              stdout=subprocess.PIPE, timeout=PATIENCE, check=True)
+        self.assertEqual(done.stdout.split(), expected)
+
+
+class Users(Case):
+    GOOD = adduser.line("anna", 1, b"salmon", 1000)
+
+    def test_bad_lines_are_named(self):
+        """Each bad line is named with its number, and nothing starts."""
+        name, rank, iterations, salt, digest = self.GOOD.split(" ")
+        bad = (
+            "anna", f"{name} 1 1000 {salt}", self.GOOD + " x", f"{name}  1 1000 {salt} {digest}", f"bo 0 1000 {salt} {digest}",
+            f"bo 3 1000 {salt} {digest}", f"bo 01 1000 {salt} {digest}", f"bo 1 999 {salt} {digest}", f"bo 1 10000001 {salt} {digest}",
+            f"bo 1 99999999999 {salt} {digest}", f"bo 1 -5 {salt} {digest}", f"bo 1 1000 {salt[:14]} {digest}", f"bo 1 1000 {salt}0 {digest}",
+            f"bo 1 1000 {salt[:-1]}g {digest}", f"bo 1 1000 {'ab' * 65} {digest}", f"bo 1 1000 {salt} {digest[:-2]}",
+            f"bo 1 1000 {salt} {digest}00", f"b:o 1 1000 {salt} {digest}", f"{'b' * 33} 1 1000 {salt} {digest}",
+            f"b\xf6 1 1000 {salt} {digest}", f" 1 1000 {salt} {digest}", self.GOOD, "x" * 2000,
+        )
+        said = self.refused("--users", self.users_file("# who may log in", "", self.GOOD, *bad))
+        for index, line in enumerate(bad):
+            self.assertIn(f", line {index + 4}: ", said, line[:80])
+        self.assertEqual(said.count(", line "), len(bad))
+        self.assertIn(f"{len(bad)} bad lines in", said)
+        self.assertNotIn(digest, said)
+
+    def test_files_that_cannot_be_used(self):
+        """Missing, empty, a folder, too many users: each says what to do."""
+        self.assertIn("host/adduser.py", self.refused("--users", os.path.join(self.folder.name, "none")))
+        self.assertIn("add one with host/adduser.py", self.refused("--users", self.users_file("# nobody")))
+        self.assertIn("name a plain file", self.refused("--users", self.folder.name).lower())
+        many = [self.GOOD.replace("anna", f"anna{i}") for i in range(65)]
+        self.assertIn("line 65: there is room for 64 users", self.refused("--users", self.users_file(*many)))
+        self.assertIn("would hold the passwords", self.refused("--users", self.users_file(self.GOOD), "--trace", "x"))
+
+    def test_adduser(self):
+        """host/adduser.py makes a line that Python's hash agrees with, from standard input alone."""
+        words = [sys.executable, os.path.join(ROOT, "host", "adduser.py")]
+        done = subprocess.run(words + ["olav", "2", "--iterations", "2000"], input="a long secret\n", text=True, stdout=subprocess.PIPE,
+                              timeout=PATIENCE, check=True)
+        name, rank, iterations, salt, digest = done.stdout.split()
+        self.assertEqual((name, rank, iterations, len(salt)), ("olav", "2", "2000", 32))
+        self.assertEqual(hashlib.pbkdf2_hmac("sha256", b"a long secret", bytes.fromhex(salt), 2000).hex(), digest)
+        for wrong in (["ol av", "1"], ["olav", "3"], ["a:b", "1"], ["#a", "1"], ["olav", "1", "--iterations", "5"]):
+            done = subprocess.run(words + wrong, input="secret\n", text=True, stdout=subprocess.PIPE, stderr=subprocess.PIPE,
+                                  timeout=PATIENCE)
+            self.assertNotEqual(done.returncode, 0)
+            self.assertEqual(done.stdout, "")
+
+
+# ---------------------------------------------------------------------------------------------
+# Login
+# ---------------------------------------------------------------------------------------------
+
+REFUSED, USER, ADMINISTRATOR = frame(b"\x7D\xFF"), frame(b"\x7D\x02"), frame(b"\x7D\x80")
+
+
+class Login(Case):
+    def start(self, iterations=1000):
+        return Boxd("--quiet", "--users", self.users_file(adduser.line("anna", 1, b"salmon", iterations),
+                                                          adduser.line("olav", 2, b"Trout:7", iterations)))
+
+    def answer(self, client, message):
+        """The frame that answers a login, and after how many seconds."""
+        begun = time.monotonic()
+        content = client.ask(message, 125)
+        return frame(content), time.monotonic() - begun
+
+    def monitor_as_model(self, client, box):
+        """A Monitor message, its clock taken as told, is the model's."""
+        content = client.next_of(1)
+        box.pass_(number(content[-8:]) - box.clock)
+        self.assertEqual(content, box.monitor_content())
+
+    def test_ranks(self):
+        """Before a login nothing is served; after it what its rank allows.  The answers are 001's."""
+        every = (CLOCK, MONITOR, frame(b"\x0A\x01\x00\x01"), frame(b"\x15\x00\x00"), frame(b"\x17\x00\x00"), frame(b"\x1A\x01"))
+        set_clock = frame(b"\x07" + field(1000000, 8))
+        with self.start() as host, Client(host.port) as anna, Client(host.port) as olav:
+            box = Box()
+            anna.send(b"".join(every) + set_clock + b"\x06\x55")
+            self.assertEqual(self.answer(anna, login(b"anna", b"salmon"))[0], USER)
+            self.assertEqual(anna.got[:7], USER)                    # nothing before it: all was refused
+            self.monitor_as_model(anna, box)
+            anna.send(set_clock)
+            self.assertLess(anna.clock(), 900000)
+            self.assertEqual(self.answer(olav, login(b"olav", b"Trout:7"))[0], ADMINISTRATOR)
+            self.monitor_as_model(olav, Box())
+            olav.send(set_clock)
+            self.assertGreaterEqual(olav.clock(), 1000000)
+            box.clock = 1000000
+            anna.send(frame(b"\x0A\x01\x00\x04"))
+            box.relays[3].state = 1
+            self.monitor_as_model(anna, box)
+            host.quit()
+        self.assertEqual(host.count(r"refused \(9\)"), 8)
+        self.assertTrue(host.find("anna logged in, user"))
+        self.assertTrue(host.find("olav logged in, administrator"))
+
+    def test_001_example(self):
+        """The login that 001 prints, bytes and all, with its checksum and with 0xFFFF; whole and byte by byte."""
+        users = self.users_file(adduser.line("jnior", 2, b"jnior", 1000))
+        with Boxd("--quiet", "--users", users) as host:
+            for request in ("01000d60b77e056a6e696f72056a6e696f72", "01000dffff7e056a6e696f72056a6e696f72"):
+                for size in (18, 1, 7):
+                    with Client(host.port) as client:
+                        data = bytes.fromhex(request)
+                        for at in range(0, len(data), size):
+                            client.send(data[at:at + size])
+                        client.next()
+                        self.assertEqual(client.got[:7].hex(), "010002f0207d80")
+                        self.assertEqual(client.next()[0], 1)
+
+    def test_layouts(self):
+        """A layout that is not 001's is refused at once and harms nothing; the encoded form is understood."""
+        encode = base64.b64encode
+        wrong = (b"", b"\x04anna", b"\x04anna\x06salmo", b"\x04anna\x06salmonx", b"\xFFanna", b"\x04anna\xFFsalmon", b"\x00",
+                 b"\x00\x00", string(b"") + string(b"YW5u"), string(b"") + string(b"YW5uYTpzYWxtb24"), string(b"") + string(b"anna:salmon"),
+                 string(b"") + string(b"===="), bytes(1023))
+        with self.start() as host, Client(host.port) as client:
+            for content in wrong:
+                self.assertEqual(self.answer(client, frame(b"\x7E" + content))[0], REFUSED, content)
+            client.send(b"\x01" + field(1025, 2) + b"\xFF\xFF" + b"\x7E" + bytes(1024))             # too long to be one
+            client.send(b"\x01\x00\x0D\x12\x34" + login(b"anna", b"salmon")[5:])                    # a wrong checksum
+            self.assertEqual(self.answer(client, login(b"", encode(b"anna:salmon")))[0], USER)
+            self.assertEqual(self.answer(client, login(b"", encode(b"olav:Trout:7")))[0], ADMINISTRATOR)
+            client.clock()
+            host.quit()
+
+    def test_without_users(self):
+        """Where nobody has to log in, a LoginRequest of 001's layout is answered as an administrator's, any other is refused."""
+        rng = random.Random("logins")
+        stream = b""
+        for _ in range(1500):
+            name, password = rng.randbytes(rng.randrange(9)), rng.randbytes(rng.choice((0, 1, 8, 254, 255)))
+            content = b"\x7E" + string(name) + string(password)
+            change = rng.randrange(6)
+            if change == 0:
+                content = content[:rng.randrange(1, len(content) + 1)]
+            elif change == 1:
+                content += rng.randbytes(rng.randrange(1, 500))
+            elif change == 2:
+                content = content[:1] + bytes([rng.randrange(256)]) + content[2:]
+            stream += frame(content)
+        with Boxd("--quiet", trace=True) as host, Client(host.port) as client:
+            client.talk(stream, rng, 2000)
+            host.quit()
+            judge(host, [client])
+        answers = [content[1] for content in client.contents() if content[0] == 125]
+        self.assertEqual(len(answers), 1500)
+        self.assertEqual(set(answers), {0x80, 0xFF})
+
+    def test_again(self):
+        """A login on a connection that has one: the right password changes the rank, a wrong one changes nothing."""
+        with self.start() as host, Client(host.port) as client:
+            self.assertEqual(self.answer(client, login(b"olav", b"Trout:7"))[0], ADMINISTRATOR)
+            client.send(login(b"anna", b"no") + CLOCK)
+            self.assertEqual(client.next_of(125), b"\x7D\xFF")
+            self.assertEqual(client.next_of(6)[0], 6)
+            client.send(frame(b"\x07" + field(5, 8)) + login(b"olav", b"Trout:7") + login(b"nobody", b"") + CLOCK)
+            self.assertEqual([client.next_of(125) for _ in range(2)], [b"\x7D\x80", b"\x7D\xFF"])
+            self.assertLess(number(client.next_of(6)[1:]), 900000)
+            host.quit()
+
+    def test_wrong_passwords_are_slowed_down(self):
+        """On a connection and for a name, a user's or nobody's; others are not slowed down, and no password is printed."""
+        with self.start() as host:
+            run_all(lambda: self.slow_name(host), lambda: self.slow_connection(host), lambda: self.others(host))
+            host.quit()
+        printed = "\n".join(host.lines)
+        for secret in ("salmon", "Trout", "guess", "nobody", "0X", b"guess".hex()):
+            self.assertNotIn(secret, printed)
+
+    def slow_name(self, host):
+        for _ in range(2):
+            begun = time.monotonic()
+            with Client(host.port) as client:
+                found, after = self.answer(client, login(b"anna", b"guess"))
+                self.assertEqual(found, REFUSED)
+                self.assertGreaterEqual(after, 0.99)
+        with Client(host.port) as client:               # the second slows the name down for two seconds, its connection for one
+            self.assertEqual(self.answer(client, login(b"anna", b"salmon"))[0], USER)
+            self.assertGreaterEqual(time.monotonic() - begun, 1.99)
+            self.assertEqual(self.answer(client, login(b"anna", b"salmon"))[0], USER)
+
+    def slow_connection(self, host):
+        with Client(host.port) as client:
+            for attempt, least in ((b"nobody0X", 0.99), (b"nobody0Y", 1.99)):
+                begun = time.monotonic()
+                client.send(login(attempt, b"guess") + CLOCK)
+                self.assertEqual(client.next_of(125), b"\x7D\xFF")
+                self.assertGreaterEqual(time.monotonic() - begun, least)
+
+    def others(self, host):
+        with Client(host.port) as client:
+            self.assertEqual(self.answer(client, login(b"olav", b"Trout:7"))[0], ADMINISTRATOR)
+            for _ in range(300):
+                client.clock()
+
+    def test_work_delays_nobody(self):
+        """While a long hash is worked out, another connection is served; a client that hangs up meanwhile is let go."""
+        users = self.users_file(adduser.line("anna", 1, b"salmon", 200000), adduser.line("olav", 2, b"Trout:7", 1000))
+        with Boxd("--quiet", "--users", users) as host, Client(host.port) as anna, Client(host.port) as olav:
+            self.assertEqual(self.answer(olav, login(b"olav", b"Trout:7"))[0], ADMINISTRATOR)
+            gone = Client(host.port)
+            gone.send(login(b"anna", b"salmon"))
+            gone.socket.setsockopt(socket.SOL_SOCKET, socket.SO_LINGER, b"\x01\0\0\0\0\0\0\0")
+            gone.close()
+            host.wait_for("connection 2 closed")
+            served = max(self.served_meanwhile(anna, olav) for _ in range(3))       # a busy machine may hold us up once
+            self.assertGreaterEqual(served, 20)
+            host.quit()
+
+    def served_meanwhile(self, anna, olav):
+        """How often olav is answered while anna's login is worked on."""
+        while anna.waits():
+            anna.more()                                 # Monitor messages of an earlier login
+        anna.send(login(b"anna", b"salmon"))
+        served = 0
+        while not anna.waits():
+            olav.clock()
+            served += 1
+        self.assertEqual(anna.next_of(125), b"\x7D\x02")
+        anna.next_of(1)
+        return served
+
+
+# ---------------------------------------------------------------------------------------------
+# Arguments
+# ---------------------------------------------------------------------------------------------
+
+class Arguments(Case):
+    def test_errors_say_what_to_do(self):
+        short = os.path.join(self.folder.name, "short")
+        with open(short, "w", encoding="ascii") as file:
+            file.write("1 2 3")
+        for words, said in ((("--listen", "9200"), "Write for example"), (("--listen", "localhost:9200"), "Write for example"),
+                            (("--listen", "127.0.0.1:65536"), "Write for example"), (("--listen",), "--help says what"),
+                            (("--loud",), "--help lists them"), (("--seed", "-1"), "Write for example"),
+                            (("--settings", short), "number 4 of 40"), (("--settings", short + "x"), "Name another after"),
+                            (("--listen", "192.0.2.1:9200"), "choose one that it has"),
+                            (("--quiet", "--listen", "127.0.0.1:0", "--trace", self.folder.name), "Name another file")):
+            self.assertIn(said, self.refused(*words), words)
+
+    def test_port_in_use(self):
+        with Boxd("--quiet") as host:
+            said = self.refused("--listen", f"127.0.0.1:{host.port}")
+            self.assertIn("Another box may be running: end it, or choose another port", said)
+
+    @unittest.skipUnless(os.uname().machine == "x86_64", "an emulator needs files of its own")
+    def test_too_few_files(self):
+        """Where the system allows too few open files to wait for clients, the box says so and ends."""
+        shell = ["bash", "-c", 'ulimit -n 12; exec "$@"', "bash", os.path.join(ROOT, "host", "exec"), PROGRAM, "--quiet", "--listen", "127.0.0.1:0"]
+        with Program(shell) as program:
+            self.assertEqual(program.ended(), 1)
+            self.assertTrue(program.find("Raise `ulimit -n`"))
+
+    def test_help(self):
+        done = subprocess.run([os.path.join(ROOT, "host", "exec"), PROGRAM, "--help"], stdout=subprocess.PIPE, text=True, check=True,
+                              timeout=PATIENCE)
+        for word in ("--listen", "--users", "--settings", "--quiet", "--seed", "--trace", "level K V", "state", "quit"):
+            self.assertIn(word, done.stdout)
+
+
+if __name__ == "__main__":
+    subprocess.run([os.path.join(ROOT, "host", "build"), PROGRAM, PROGRAM.replace("boxd", "hashes")], check=True)
+    unittest.main()

@@ -1,0 +1,246 @@
+#!/usr/bin/env python3
+"""The panel over HTTP, against the host: what it shows, its buttons, who may press them, and what it says when the box is gone.
+
+    python3 tests/test_panel.py
+
+tests/browser.py tries the page itself in a real browser.
+"""
+
+import http.client
+import json
+import os
+import signal
+import socket
+import subprocess
+import sys
+import tempfile
+import time
+import unittest
+
+from boxd import Boxd, Client, MONITOR, PATIENCE, PROGRAM, Program, ROOT, frame
+from model import field
+
+sys.path.insert(0, os.path.join(ROOT, "host"))
+import adduser                                                                                      # noqa: E402
+
+
+class Panel(Program):
+    def __init__(self, port, *words, secret=None):
+        super().__init__([sys.executable, os.path.join(ROOT, "panel", "panel.py"), "--box", f"127.0.0.1:{port}", "--port", "0", *words])
+        if secret is not None:
+            self.tell(secret)
+        self.port = int(self.wait_for(r"open http://127\.0\.0\.1:(\d+)/").group(1))
+
+    def ask(self, method, path, body=None, **headers):
+        """Status, headers and body of a reply."""
+        connection = http.client.HTTPConnection("127.0.0.1", self.port, timeout=PATIENCE)
+        try:
+            connection.request(method, path, body, {name.replace("_", "-"): value for name, value in headers.items()})
+            reply = connection.getresponse()
+            return reply.status, reply.headers, reply.read().decode("utf-8")
+        finally:
+            connection.close()
+
+    def state(self):
+        return json.loads(self.ask("GET", "/state")[2])
+
+    def wait_until(self, holds):
+        """The first state that it holds for."""
+        end = time.monotonic() + PATIENCE
+        while time.monotonic() < end:
+            state = self.state()
+            if holds(state):
+                return state
+            time.sleep(0.02)
+        raise AssertionError(f"never so: {state}")
+
+    def press(self, relay, closed, **headers):
+        words = {"Origin": f"http://127.0.0.1:{self.port}", "Content_Type": "application/json", **headers}
+        body = json.dumps({"relay": relay, "closed": closed})
+        return self.ask("POST", "/relay", body, **{name: value for name, value in words.items() if value is not None})
+
+
+def answers(state):
+    return state["answers"]
+
+
+def free_port():
+    with socket.socket() as probe:
+        probe.bind(("127.0.0.1", 0))
+        return probe.getsockname()[1]
+
+
+class Case(unittest.TestCase):
+    def setUp(self):
+        self.begun = time.monotonic()
+
+    def tearDown(self):
+        print(f"    {time.monotonic() - self.begun:5.1f} s  {self.id().split('.', 1)[1]}", flush=True)
+
+    def test_shows_the_box(self):
+        """Inputs, counts, relays, clock and alarms, as another client of the box sees them."""
+        with tempfile.NamedTemporaryFile("w") as settings:
+            settings.write("2 3 1 1 " * 8 + "1 " * 8)
+            settings.flush()
+            with Boxd("--quiet", "--settings", settings.name) as host, Panel(host.port) as panel, Client(host.port) as client:
+                state = panel.wait_until(answers)
+                self.assertEqual([i["count"] for i in state["inputs"]], [0] * 8)
+                self.assertEqual(state["name"], "jr310 3.10.0001")
+                for line in ("level 3 1", "level 3 0") * 4 + ("level 5 1",):
+                    host.tell(line)
+                client.send(frame(b"\x0A\x0A\x82\x82") + frame(b"\x07" + field(1763190000000, 8)))
+                state = panel.wait_until(lambda s: s["inputs"][4]["usage_alarm"] and s["relays"][1]["usage_alarm"] and s["clock"] > 1.7e12)
+                self.assertEqual([i["count"] for i in state["inputs"]], [0, 0, 4, 0, 1, 0, 0, 0])
+                self.assertEqual([i["on"] for i in state["inputs"]], [False] * 4 + [True] + [False] * 3)
+                self.assertEqual([r["closed"] for r in state["relays"]], [False, True] + [False] * 5 + [True])
+                three, five = state["inputs"][2], state["inputs"][4]
+                self.assertEqual((three["alarm"], three["count_alarm_1"], three["count_alarm_2"]), (False, True, True))
+                self.assertEqual((five["alarm"], five["count_alarm_1"], five["count_alarm_2"]), (True, False, False))
+                client.send(frame(b"\x0A\x05\x00\x03"))             # a count that is cleared comes without a Monitor message
+                panel.wait_until(lambda s: s["inputs"][2]["count"] == 0)
+                host.quit()
+
+    def test_buttons(self):
+        """A button switches its relay, and says so when the box shows it; a second press of the same changes nothing."""
+        with Boxd("--quiet") as host, Panel(host.port) as panel, Client(host.port) as client:
+            panel.wait_until(answers)
+            for relay, closed in ((1, True), (8, True), (8, True), (1, False)):
+                self.assertEqual(panel.press(relay, closed)[0], 200)
+                self.assertEqual(client.ask(MONITOR, 1)[0], 1)
+                self.assertEqual(panel.state()["relays"][relay - 1]["closed"], closed)
+            self.assertEqual(host.count("relay 8 is closed now"), 1)
+            self.assertEqual(host.count("relay 1 is open now"), 1)
+            localhost = f"localhost:{panel.port}"
+            self.assertEqual(panel.press(2, True, Host=localhost, Origin="http://" + localhost)[0], 200)
+            for body in ("", "{}", "[]", "7", '{"relay":0,"closed":true}', '{"relay":9,"closed":true}', '{"relay":"1","closed":true}',
+                         '{"relay":true,"closed":true}', '{"relay":1,"closed":1}', "\xff"):
+                status = panel.ask("POST", "/relay", body.encode("latin-1"), Origin=f"http://127.0.0.1:{panel.port}",
+                                   Content_Type="application/json")[0]
+                self.assertEqual(status, 400, body)
+            host.quit()
+
+    def test_other_sites_press_nothing(self):
+        """A request under another name, or a command from another page, is refused."""
+        with Boxd("--quiet") as host, Panel(host.port) as panel:
+            panel.wait_until(answers)
+            own = f"127.0.0.1:{panel.port}"
+            for headers in ({"Origin": "http://evil.example"}, {"Origin": None}, {"Origin": "null"}, {"Origin": "https://" + own},
+                            {"Origin": f"http://127.0.0.1:{panel.port + 1}"}, {"Host": "evil.example"},
+                            {"Host": f"evil.example:{panel.port}", "Origin": f"http://evil.example:{panel.port}"},
+                            {"Content_Type": "text/plain"}, {"Content_Type": "application/x-www-form-urlencoded"}, {"Content_Type": None}):
+                self.assertEqual(panel.press(4, True, **headers)[0], 403, headers)
+            for path in ("/", "/state", "/events"):
+                self.assertEqual(panel.ask("GET", path, Host="evil.example")[0], 403)
+            self.assertEqual(panel.press(4, True, Content_Length="100000")[0], 413)
+            self.assertEqual(panel.ask("GET", "/../panel.py")[0], 404)
+            self.assertFalse(host.find("relay 4"))
+            host.quit()
+
+    def test_page(self):
+        """One page, with nothing from elsewhere; its events bring the state."""
+        with Boxd("--quiet") as host, Panel(host.port) as panel:
+            status, headers, body = panel.ask("GET", "/")
+            self.assertEqual(status, 200)
+            self.assertNotIn("http:", body)
+            self.assertNotIn("https:", body)
+            self.assertNotIn("src=", body)
+            self.assertIn("default-src 'none'", headers["Content-Security-Policy"])
+            self.assertEqual(headers["X-Frame-Options"], "DENY")
+            connection = http.client.HTTPConnection("127.0.0.1", panel.port, timeout=PATIENCE)
+            connection.request("GET", "/events")
+            events = connection.getresponse()
+            self.assertEqual(events.headers["Content-Type"], "text/event-stream")
+            while not json.loads(self.event(events))["answers"]:
+                pass
+            host.tell("level 6 1")
+            while not json.loads(self.event(events))["inputs"][5]["on"]:
+                pass
+            connection.close()
+            host.quit()
+
+    def event(self, events):
+        data, blank = events.readline(), events.readline()
+        self.assertEqual((data[:6], blank), (b"data: ", b"\n"))
+        return data[6:]
+
+    def test_box_gone_and_back(self):
+        """When the box is gone the panel says so, since when and what to check; a button then fails; it finds the box again by itself."""
+        with Boxd("--quiet") as host, Panel(host.port) as panel:
+            first = panel.wait_until(answers)
+            host.process.kill()
+            gone = panel.wait_until(lambda s: not s["answers"])
+            self.assertGreaterEqual(gone["since"], first["at"])
+            panel.wait_until(lambda s: "Check that the box runs" in s["check"])
+            status, _, said = panel.press(1, True)
+            self.assertEqual(status, 502)
+            self.assertIn("The box did not close relay 1", said)
+            with Boxd("--quiet", port=host.port) as again:
+                back = panel.wait_until(answers)
+                self.assertGreaterEqual(back["since"], gone["since"])
+                self.assertEqual(panel.press(1, True)[0], 200)
+                again.quit()
+
+    def test_fifth_connection(self):
+        """When all four connections are in use, the panel says what the box told it."""
+        with Boxd("--quiet") as host:
+            four = [Client(host.port) for _ in range(4)]
+            for client in four:
+                client.clock()
+            with Panel(host.port) as panel:
+                panel.wait_until(lambda s: "All four connections of this box are in use" in s["check"])
+                four[0].finish()
+                panel.wait_until(answers)
+            for client in four[1:]:
+                client.close()
+            host.quit()
+
+    def test_login(self):
+        """With a users file the panel logs in; without a name or with a wrong password it says what is wrong."""
+        with tempfile.TemporaryDirectory() as folder:
+            users = os.path.join(folder, "users")
+            with open(users, "w", encoding="ascii") as file:
+                file.write(adduser.line("anna", 1, b"salmon", 1000) + "\n")
+            with Boxd("--quiet", "--users", users) as host, Panel(host.port, "--user", "anna", secret="salmon") as panel, \
+                    Panel(host.port) as nobody, Panel(host.port, "--user", "anna", secret="trout") as wrong:
+                panel.wait_until(answers)
+                self.assertEqual(panel.press(3, True)[0], 200)
+                wrong.wait_until(lambda s: "It refused the login of anna" in s["check"])
+                nobody.wait_until(lambda s: "start the panel with --user NAME" in s["check"])
+                self.assertTrue(panel.state()["answers"])
+                host.quit()
+
+    def test_start_and_end(self):
+        """SIGTERM ends it cleanly; a port in use and a bad address say what to do."""
+        with Boxd("--quiet") as host, Panel(host.port) as panel:
+            words = [sys.executable, os.path.join(ROOT, "panel", "panel.py")]
+            for more, said in ((["--port", str(panel.port)], "choose another port with --port"), (["--box", "9200"], "Write for example --box")):
+                done = subprocess.run(words + more, stdout=subprocess.PIPE, stderr=subprocess.STDOUT, text=True, timeout=PATIENCE)
+                self.assertEqual(done.returncode, 1)
+                self.assertIn(said, done.stdout)
+            panel.process.terminate()
+            self.assertEqual(panel.ended(), 0)
+            self.assertTrue(panel.find("panel: ended"))
+            host.quit()
+
+    def test_run(self):
+        """`./run --panel` starts both; Ctrl-C ends both, and so does `quit`, and even a kill of the box."""
+        for end in ("Ctrl-C", "quit", "a kill"):
+            words = [os.path.join(ROOT, "run"), "--quiet", "--panel", "--panel-port", "0", "--listen", f"127.0.0.1:{free_port()}"]
+            with self.subTest(end), Program(words, start_new_session=True) as both:
+                both.port = int(both.wait_for(r"open http://127\.0\.0\.1:(\d+)/").group(1))
+                both.wait_for(r"127\.0\.0\.1:\d+ connected, administrator")
+                if end == "Ctrl-C":
+                    os.killpg(both.process.pid, signal.SIGINT)
+                elif end == "a kill":
+                    both.process.kill()
+                else:
+                    both.tell("quit")
+                status = both.ended()                       # what it printed is read to its end: the panel has ended too
+                self.assertEqual(status, -signal.SIGKILL if end == "a kill" else 0)
+                self.assertEqual(both.count("the box has ended"), 0 if end == "a kill" else 1)
+                self.assertTrue(both.over)
+
+
+if __name__ == "__main__":
+    subprocess.run([os.path.join(ROOT, "host", "build"), PROGRAM], check=True)
+    unittest.main()
