@@ -200,7 +200,7 @@ void told_bytes(heard *h, const box *b, const wellacorn_board *before, uint8_t c
 void told_rest(heard *h, uint8_t c)
 {
     if (h->strays > 0) {
-        say("connection %u sent %lu stray byte%s, ignored (5): they begin no message", c, h->strays, h->strays == 1 ? "" : "s");
+        say("connection %u sent %lu stray byte%s, ignored (5): no message begins so", c, h->strays, h->strays == 1 ? "" : "s");
     }
     if (h->keep_alives > 0) {
         say("connection %u is there still: %lu keep-alive%s (2)", c, h->keep_alives, h->keep_alives == 1 ? "" : "s");
