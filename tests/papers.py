@@ -6,6 +6,8 @@ import os
 import re
 import sys
 
+from mutants import MUTANTS
+
 os.chdir(os.path.join(os.path.dirname(os.path.abspath(__file__)), ".."))
 wrong = []
 counts = {"definitions": 0, "functions": 0, "theorems": 0, "edits": 0, "tests": 0}
@@ -71,6 +73,13 @@ for line in re.findall(r"vectors: ([^;|]+)", trace):
         counts["tests"] += 1
         if words.strip() not in vectors:
             wrong.append("TRACE: vectors prints no %r" % words.strip())
+
+# A fault that is seeded into the model, and that the traces find: the compiled library is held to the model on them.
+for line in re.findall(r'traces: ((?:"[^"]+"(?:, )?)+)', trace):
+    for name in re.findall(r'"([^"]+)"', line):
+        counts["tests"] += 1
+        if name not in MUTANTS:
+            wrong.append("TRACE: no seeded fault %r" % name)
 
 contracts = read("docs/CONTRACTS.md")
 sections = dict(re.findall(r"(?ms)^## ([a-z]+)\n(.*?)(?=^## |\Z)", contracts))
