@@ -4,8 +4,8 @@ use mathlib.Core.Bool.{Bool, false, cond}
 use mathlib.Core.List.{List, [], _∷_}
 use Prim.Native.Nat.{ℕ}
 use lib.Dec.{ltb}
-use Rattle.tables.specs.declared.Changed.{Changed}
-use Rattle.tables.specs.Levels.{levelOf}
+use Rattle.changes.specs.declared.Changed.{Changed}
+use Rattle.changes.specs.Levels.{levelOf}
 use Rattle.tables.specs.Time.{passed}
 use Rattle.replies.specs.Replies.{monitorReply}
 use Rattle.framing.specs.Seal.{frameOf}

@@ -7,7 +7,7 @@ use lib.ListN.{drop}
 use Rattle.orders.specs.declared.Order.{Order}
 use Rattle.orders.specs.declared.Order.the-variants.{Refused, Clock, Monitor, Usage, MonitorOff, MonitorOn, SetClock, Close, Open, Toggle, ClearCount, ClearInputUsage, ClearRelayUsage, Block, Read, Write, Enumerate}
 use Rattle.tables.specs.Time.{clockSet}
-use Rattle.tables.specs.Commands.{closeRelay, openRelay, toggleRelay, clearCount, clearInputUsage, clearRelayUsage, blockOf}
+use Rattle.changes.specs.Commands.{closeRelay, openRelay, toggleRelay, clearCount, clearInputUsage, clearRelayUsage, blockOf}
 use Rattle.replies.specs.Replies.{clockReply, monitorReply, usagesReply, devicesReply, countReply, enumerationReply}
 use Rattle.writes.specs.declared.Written.{Written}
 use Rattle.writes.specs.Writes.{writtenOf}

@@ -14,8 +14,8 @@ ghost use Rattle.plain.specs.Obeying.{monitorSet, clockTold, wrote, obey
 ghost use Rattle.writes.specs.Writes.{writtenOf};
 ghost use Rattle.plain.specs.Serving.{servedContent, servedCall};
 ghost use Rattle.plain.specs.Calls.{servedOf, given, sealedReply, sealedServed, Does};
+use changes::Changed;
 use orders::Order;
-use tables::Changed;
 use tables::Tables;
 use writes::Written;
 
@@ -178,7 +178,7 @@ pub fn level(p: Plain, k: u8, v: u8) -> Served
     ensures { λ r. ⌜ r ≡ given (leveled k v p) ⌝ }
 {
     let t = p.tables;
-    change(p, tables::level(t, k, v))
+    change(p, changes::level(t, k, v))
 }
 
 // d ms have passed.
@@ -326,13 +326,13 @@ fn obey(p: Plain, at: usize, content: &[u8], out: &mut [u8], order: Order) -> Se
         Order::MonitorOff => set_monitor(p, at, false),
         Order::MonitorOn => set_monitor(p, at, true),
         Order::SetClock(v) => set_clock(p, v),
-        Order::Close(k) => change(p, tables::close_relay(t, k)),
-        Order::Open(k) => change(p, tables::open_relay(t, k)),
-        Order::Toggle(k) => change(p, tables::toggle_relay(t, k)),
-        Order::ClearCount(k) => change(p, tables::clear_count(t, k)),
-        Order::ClearInputUsage(k) => change(p, tables::clear_input_usage(t, k)),
-        Order::ClearRelayUsage(k) => change(p, tables::clear_relay_usage(t, k)),
-        Order::Block(mask, state) => change(p, tables::block(t, mask, state)),
+        Order::Close(k) => change(p, changes::close_relay(t, k)),
+        Order::Open(k) => change(p, changes::open_relay(t, k)),
+        Order::Toggle(k) => change(p, changes::toggle_relay(t, k)),
+        Order::ClearCount(k) => change(p, changes::clear_count(t, k)),
+        Order::ClearInputUsage(k) => change(p, changes::clear_input_usage(t, k)),
+        Order::ClearRelayUsage(k) => change(p, changes::clear_relay_usage(t, k)),
+        Order::Block(mask, state) => change(p, changes::block(t, mask, state)),
         Order::Read(_) => replied(p, replies::write_devices(out, orders::ids(content), t)),
         Order::Write(count) => write(p, content, count, out),
         Order::Enumerate(flags) => replied(p, replies::write_enumeration(out, flags)),

@@ -18,7 +18,7 @@ use lib.ListN.{length, getD}
 use Rattle.words.specs.Words.{fits, numberAt}
 use Rattle.framing.specs.Cut.{need, whole, cuts, messages, seen}
 use Rattle.framing.specs.Reading.{start}
-use Rattle.tables.specs.Answers.{onRelay}
+use Rattle.changes.specs.Answers.{onRelay}
 use Rattle.orders.specs.Layouts.{onChannel, judgeCommand}
 use Rattle.orders.specs.Orders.{commandOf, orderOf}
 use Rattle.replies.specs.Replies.{monitorReply}

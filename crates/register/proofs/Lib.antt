@@ -7,6 +7,7 @@ pub mod BoxLawful
 pub mod BoxDemand
 pub mod Laws
 pub mod UniqueTables
+pub mod UniqueChanges
 pub mod UniquePlain
 pub mod UniqueBoard
 pub mod Starred

@@ -11,10 +11,10 @@ use Rattle.tables.specs.declared.Input.{Input}
 use Rattle.tables.specs.declared.Relay.{Relay}
 use Rattle.tables.specs.declared.Tables.{Tables}
 use Rattle.tables.specs.Held.{isChannel}
-use Rattle.tables.specs.Answers as tables
-use Rattle.tables.specs.Answers.{onInput, onRelay}
-use Rattle.tables.specs.Levels.{told, levelOf}
-use Rattle.tables.specs.Commands.{blockOf}
+use Rattle.changes.specs.Answers as tables
+use Rattle.changes.specs.Answers.{onInput, onRelay}
+use Rattle.changes.specs.Levels.{told, levelOf}
+use Rattle.changes.specs.Commands.{blockOf}
 use Rattle.orders.specs.declared.Order.{Order}
 use Rattle.orders.specs.declared.Order.the-variants.{Refused, Clock, Monitor, Usage, MonitorOff, MonitorOn, SetClock, Close, Open, Toggle, ClearCount, ClearInputUsage, ClearRelayUsage, Block, Read, Write, Enumerate}
 use Rattle.orders.specs.Orders.{orderOf}

@@ -7,11 +7,11 @@ use Rattle.laws.specs.Chunks.{chunks}
 use Rattle.words.specs.Words.{fits, numberAt}
 use Rattle.framing.specs.Reading.{stepOf, firstOf, afterOf, roomOf, runOf}
 use Rattle.tables.specs.Alarms.{alarmState, countAlarm, usageAlarm}
-use Rattle.tables.specs.Answers.{onInput, onRelay}
-use Rattle.tables.specs.Levels.{told, levelOf}
-use Rattle.tables.specs.Commands.{masked, blockOf}
+use Rattle.changes.specs.Answers.{onInput, onRelay}
+use Rattle.changes.specs.Levels.{told, levelOf}
+use Rattle.changes.specs.Commands.{masked, blockOf}
 use Rattle.tables.specs.Devices.{idOf, firstWith, deviceOf}
-use Rattle.tables.specs.Entries.{inputWritten, writeInput}
+use Rattle.changes.specs.Entries.{inputWritten, writeInput}
 use Rattle.orders.specs.Entries.{fitsExactly}
 use Rattle.orders.specs.Layouts.{sizedRequest, judgeRequest, onChannel, onBlock, judgeCommand, judgeRead, judgeWrite}
 use Rattle.orders.specs.Orders.{requestOf, commandOf, readOf, writeOf, orderOf}

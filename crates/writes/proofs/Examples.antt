@@ -10,9 +10,9 @@ use lib.ListN.{length}
 use Rattle.words.specs.Words.{bytesOf, fits, numberAt}
 use Rattle.tables.specs.declared.Tables.{Tables}
 use Rattle.tables.specs.Held.{blankInput, blankRelay, tablesOf, counted, putInput, putRelay, switched}
-use Rattle.tables.specs.Answers.{onInput, onRelay}
+use Rattle.changes.specs.Answers.{onInput, onRelay}
 use Rattle.tables.specs.Devices.{idOf, firstWith, deviceOf}
-use Rattle.tables.specs.Entries.{inputWritten, relayWritten, writeInput, writeRelay}
+use Rattle.changes.specs.Entries.{inputWritten, relayWritten, writeInput, writeRelay}
 use Rattle.writes.specs.Writes.{deviceDone, soFar, writtenFrom, writtenOf}
 
 -- "all numbers are 0, all relays open"

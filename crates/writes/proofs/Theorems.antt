@@ -20,13 +20,13 @@ use Rattle.laws.proofs.Tests.{by-cases}
 use Rattle.words.specs.Words.{numberAt}
 use Rattle.words.proofs.Laws.{fits-no}
 use Rattle.tables.specs.declared.Tables.{Tables}
-use Rattle.tables.specs.declared.Changed.{Changed}
+use Rattle.changes.specs.declared.Changed.{Changed}
 use Rattle.tables.specs.declared.Device.{Device}
 use Rattle.tables.specs.declared.Device.the-variants.{Din, Rout, Unknown}
 use Rattle.tables.specs.Held.{isChannel}
-use Rattle.tables.specs.Answers.{served, refused, onInput, onRelay}
+use Rattle.changes.specs.Answers.{served, refused, onInput, onRelay}
 use Rattle.tables.specs.Devices.{devices, idOf, firstWith, deviceOf}
-use Rattle.tables.specs.Entries.{relayFails, writeInput, writeRelay}
+use Rattle.changes.specs.Entries.{relayFails, writeInput, writeRelay}
 use Rattle.orders.specs.declared.Entry.{Entry}
 use Rattle.orders.specs.Entries.{entryOf}
 use Rattle.orders.proofs.Entries.{behind}

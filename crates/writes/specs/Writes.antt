@@ -4,13 +4,13 @@ use mathlib.Core.List.{List}
 use Prim.Native.Nat.{ℕ, zero, suc, _+_}
 use lib.Dec.{eqb}
 use Rattle.tables.specs.declared.Tables.{Tables}
-use Rattle.tables.specs.declared.Changed.{Changed}
+use Rattle.changes.specs.declared.Changed.{Changed}
 use Rattle.tables.specs.declared.Device.{Device}
 use Rattle.tables.specs.declared.Device.the-variants.{Din, Rout, Unknown}
-use Rattle.tables.specs.Answers.{refused}
+use Rattle.changes.specs.Answers.{refused}
 use Rattle.tables.specs.Bits.{hasFlag}
 use Rattle.tables.specs.Devices.{deviceOf}
-use Rattle.tables.specs.Entries.{writeInput, writeRelay}
+use Rattle.changes.specs.Entries.{writeInput, writeRelay}
 use Rattle.orders.specs.declared.Entry.{Entry}
 use Rattle.orders.specs.Entries.{entryOf}
 use Rattle.writes.specs.declared.Written.{Written}

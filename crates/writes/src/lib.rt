@@ -5,11 +5,11 @@ ghost use mathlib.Core.Path.{_≡_};
 ghost use mathlib.Core.Bool.{cond, _||_};
 ghost use Prim.Native.Nat.{_+_, _<_};
 ghost use lib.Dec.{eqb};
-ghost use Rattle.tables.specs.Answers.{refused};
+ghost use Rattle.changes.specs.Answers.{refused};
 ghost use Rattle.tables.specs.Bits.{hasFlag};
 ghost use Rattle.writes.specs.Writes.{sizeFits, deviceDone, entryDone, writtenOf};
+use changes::Changed;
 use orders::Entry;
-use tables::Changed;
 use tables::Device;
 use tables::Tables;
 
@@ -43,25 +43,14 @@ fn size_fits(most: u16, flag: u8, size: u16, flags: u8) -> bool
     !has_flag(flags, flag)
 }
 
-// An entry that fails changes nothing.
-fn refuse(t: Tables) -> Changed
-    ensures { λ r. ⌜ r ≡ refused t ⌝ }
-{
-    Changed {
-        answer: 11,
-        changed: false,
-        tables: t,
-    }
-}
-
 // An entry for input k: flags, and behind them a count (4), which flag 2 needs.
 fn write_input(t: Tables, k: u8, e: Entry) -> Changed
     ensures { λ r. ⌜ r ≡ deviceDone (Device.Din k) e t ⌝ }
 {
     if size_fits(5, 2, e.size, e.flags) {
-        return tables::write_input(t, k, e.flags, e.count);
+        return changes::write_input(t, k, e.flags, e.count);
     }
-    refuse(t)
+    changes::refuse(t)
 }
 
 // An entry for relay k: flags, and behind them a state (1), which flag 1 needs.
@@ -69,9 +58,9 @@ fn write_relay(t: Tables, k: u8, e: Entry) -> Changed
     ensures { λ r. ⌜ r ≡ deviceDone (Device.Rout k) e t ⌝ }
 {
     if size_fits(2, 1, e.size, e.flags) {
-        return tables::write_relay(t, k, e.flags, e.state);
+        return changes::write_relay(t, k, e.flags, e.state);
     }
-    refuse(t)
+    changes::refuse(t)
 }
 
 // An entry, for the device of its ID.
@@ -82,7 +71,7 @@ fn write_entry(t: Tables, e: Entry) -> Changed
     match device {
         Device::Din(k) => write_input(t, k, e),
         Device::Rout(k) => write_relay(t, k, e),
-        Device::Unknown => refuse(t),
+        Device::Unknown => changes::refuse(t),
     }
 }
 
@@ -106,7 +95,7 @@ pub fn apply(content: &[u8], count: u16, t: Tables) -> Written
     ensures { λ r. ⌜ r ≡ writtenOf (now (content .entry)) count t ⌝ }
 {
     // What the latest entry did, and at first nothing. It holds the tables from turn to turn, which spares each turn one copy of them.
-    let mut done = refuse(t);
+    let mut done = changes::refuse(t);
     let mut written: u16 = 0;
     let mut changed = false;
     let mut at: usize = 3;
