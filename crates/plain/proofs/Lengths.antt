@@ -7,8 +7,9 @@ use lib.ListN.{length, drop, length-drop}
 use Rattle.orders.specs.declared.Order.{Order}
 use Rattle.orders.specs.declared.Order.the-variants.{Refused, Clock, Monitor, Usage, MonitorOff, MonitorOn, SetClock, Close, Open, Toggle, ClearCount, ClearInputUsage, ClearRelayUsage, Block, Read, Write, Enumerate}
 use Rattle.tables.specs.Bits.{hasFlag}
-use Rattle.replies.specs.Replies.{devicesRoom}
-use Rattle.replies.proofs.Lengths.{length-clock, length-count, length-monitor, length-usages, length-enumeration, length-devices}
+use Rattle.readings.specs.Readings.{devicesRoom}
+use Rattle.replies.proofs.Lengths.{length-clock, length-count, length-usages, length-enumeration}
+use Rattle.readings.proofs.Lengths.{length-monitor, length-devices}
 use Rattle.writes.specs.Writes.{writtenOf}
 use Rattle.plain.specs.declared.Plain.{Plain}
 use Rattle.plain.specs.Obeying.{monitorSet, clockTold, obeyed}

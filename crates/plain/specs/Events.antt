@@ -7,7 +7,7 @@ use lib.Dec.{ltb}
 use Rattle.changes.specs.declared.Changed.{Changed}
 use Rattle.changes.specs.Levels.{levelOf}
 use Rattle.tables.specs.Time.{passed}
-use Rattle.replies.specs.Replies.{monitorReply}
+use Rattle.readings.specs.Readings.{monitorReply}
 use Rattle.framing.specs.Seal.{frameOf}
 use Rattle.plain.specs.declared.Plain.{Plain}
 use Rattle.plain.specs.Lines.{shutLine, openedLine, withDue, withTables, lineAt, putLine, isConnection, isOpen}

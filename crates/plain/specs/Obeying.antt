@@ -8,7 +8,8 @@ use Rattle.orders.specs.declared.Order.{Order}
 use Rattle.orders.specs.declared.Order.the-variants.{Refused, Clock, Monitor, Usage, MonitorOff, MonitorOn, SetClock, Close, Open, Toggle, ClearCount, ClearInputUsage, ClearRelayUsage, Block, Read, Write, Enumerate}
 use Rattle.tables.specs.Time.{clockSet}
 use Rattle.changes.specs.Commands.{closeRelay, openRelay, toggleRelay, clearCount, clearInputUsage, clearRelayUsage, blockOf}
-use Rattle.replies.specs.Replies.{clockReply, monitorReply, usagesReply, devicesReply, countReply, enumerationReply}
+use Rattle.replies.specs.Replies.{clockReply, usagesReply, countReply, enumerationReply}
+use Rattle.readings.specs.Readings.{monitorReply, devicesReply}
 use Rattle.writes.specs.declared.Written.{Written}
 use Rattle.writes.specs.Writes.{writtenOf}
 use Rattle.plain.specs.declared.Plain.{Plain}

@@ -255,7 +255,7 @@ fn send_monitor(p: Plain, at: usize, reply: &mut [u8]) -> Served
     let mut line = lines[at];
     line.due = false;
     let next = put_line(p, at, line);
-    let n = replies::write_monitor(&mut reply[5..], t);
+    let n = readings::write_monitor(&mut reply[5..], t);
     seal(replied(next, n), reply)
 }
 
@@ -321,7 +321,7 @@ fn obey(p: Plain, at: usize, content: &[u8], out: &mut [u8], order: Order) -> Se
     match order {
         Order::Refused(n) => no_reply(p, n),
         Order::Clock => replied(p, replies::write_clock(out, t)),
-        Order::Monitor => replied(p, replies::write_monitor(out, t)),
+        Order::Monitor => replied(p, readings::write_monitor(out, t)),
         Order::Usage => replied(p, replies::write_usages(out, t)),
         Order::MonitorOff => set_monitor(p, at, false),
         Order::MonitorOn => set_monitor(p, at, true),
@@ -333,7 +333,7 @@ fn obey(p: Plain, at: usize, content: &[u8], out: &mut [u8], order: Order) -> Se
         Order::ClearInputUsage(k) => change(p, changes::clear_input_usage(t, k)),
         Order::ClearRelayUsage(k) => change(p, changes::clear_relay_usage(t, k)),
         Order::Block(mask, state) => change(p, changes::block(t, mask, state)),
-        Order::Read(_) => replied(p, replies::write_devices(out, orders::ids(content), t)),
+        Order::Read(_) => replied(p, readings::write_devices(out, orders::ids(content), t)),
         Order::Write(count) => write(p, content, count, out),
         Order::Enumerate(flags) => replied(p, replies::write_enumeration(out, flags)),
     }

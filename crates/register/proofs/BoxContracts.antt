@@ -19,8 +19,8 @@ use Rattle.framing.specs.declared.Outcome.the-variants.{Waiting, KeepAlive, Str
 use Rattle.framing.specs.Cut.{frame, tooLong}
 use Rattle.framing.specs.Reading.{gotOf}
 use Rattle.orders.specs.Orders.{orderOf}
-use Rattle.replies.specs.Replies.{monitorReply}
-use Rattle.replies.proofs.Lengths.{length-monitor}
+use Rattle.readings.specs.Readings.{monitorReply}
+use Rattle.readings.proofs.Lengths.{length-monitor}
 use Rattle.plain.specs.declared.Plain.{Plain}
 use Rattle.plain.specs.Lines.{lineAt}
 use Rattle.plain.specs.Events.{Did, framed, leveled, timePassed, connected, closed, monitorSent}

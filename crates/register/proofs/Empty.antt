@@ -21,7 +21,7 @@ use Rattle.framing.specs.Reading.{start}
 use Rattle.changes.specs.Answers.{onRelay}
 use Rattle.orders.specs.Layouts.{onChannel, judgeCommand}
 use Rattle.orders.specs.Orders.{commandOf, orderOf}
-use Rattle.replies.specs.Replies.{monitorReply}
+use Rattle.readings.specs.Readings.{monitorReply}
 use Rattle.plain.specs.declared.Plain.{Plain}
 use Rattle.plain.specs.Lines.{openedLine, isOpen}
 use Rattle.plain.specs.Marks.{markedLine, marked}

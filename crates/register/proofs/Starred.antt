@@ -15,8 +15,9 @@ use Rattle.changes.specs.Entries.{inputWritten, writeInput}
 use Rattle.orders.specs.Entries.{fitsExactly}
 use Rattle.orders.specs.Layouts.{sizedRequest, judgeRequest, onChannel, onBlock, judgeCommand, judgeRead, judgeWrite}
 use Rattle.orders.specs.Orders.{requestOf, commandOf, readOf, writeOf, orderOf}
-use Rattle.replies.specs.Replies as replies
-use Rattle.replies.specs.Replies.{inputsOf, relaysOf, inputRow, monitorReply, inputBlock, relayBlock, entryOf, idsIn, devicesReply}
+use Rattle.readings.specs.Readings as readings
+use Rattle.replies.specs.Replies.{inputsOf, relaysOf}
+use Rattle.readings.specs.Readings.{inputRow, monitorReply, inputBlock, relayBlock, entryOf, idsIn, devicesReply}
 use Rattle.writes.specs.Writes.{deviceDone, writtenFrom}
 use Rattle.plain.specs.Lines.{openedLine, isOpen}
 use Rattle.plain.specs.Marks.{markedLine, marked}
@@ -28,5 +29,5 @@ use Rattle.board.specs.Calls.{levelCall, connectCall, collectCall, bytesCall, r
 use Rattle.register.specs.Starred.{Row, starredCases}
 
 pub starred : map (λ (r : Row). r .does) starredCases ≡ map (λ (r : Row). r .owes) starredCases
-unfolding put rows eachAt anyBelow chunks fits numberAt stepOf firstOf afterOf roomOf runOf alarmState countAlarm usageAlarm onInput onRelay told levelOf masked blockOf idOf firstWith deviceOf inputWritten writeInput fitsExactly sizedRequest judgeRequest onChannel onBlock judgeCommand judgeRead judgeWrite requestOf commandOf readOf writeOf orderOf inputsOf relaysOf inputRow monitorReply inputBlock relayBlock replies.blockOf entryOf idsIn devicesReply deviceDone writtenFrom openedLine isOpen markedLine marked leveled connected monitorSent collected monitorSet obeyed servedContent servedMessage poweredUp levelCall connectCall collectCall bytesCall roomsAfter
+unfolding put rows eachAt anyBelow chunks fits numberAt stepOf firstOf afterOf roomOf runOf alarmState countAlarm usageAlarm onInput onRelay told levelOf masked blockOf idOf firstWith deviceOf inputWritten writeInput fitsExactly sizedRequest judgeRequest onChannel onBlock judgeCommand judgeRead judgeWrite requestOf commandOf readOf writeOf orderOf inputsOf relaysOf inputRow monitorReply inputBlock relayBlock readings.blockOf entryOf idsIn devicesReply deviceDone writtenFrom openedLine isOpen markedLine marked leveled connected monitorSent collected monitorSet obeyed servedContent servedMessage poweredUp levelCall connectCall collectCall bytesCall roomsAfter
 starred = refl

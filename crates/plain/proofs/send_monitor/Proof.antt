@@ -2,11 +2,11 @@
 use mathlib.Core.Bool.{false}
 use native.Mathlib.Omega.{arith}
 use borrow.Author.Needs.{needs}
-use Rattle.replies.proofs.Lengths.{length-monitor}
+use Rattle.readings.proofs.Lengths.{length-monitor}
 use Rattle.plain.proofs.Replying.{part-long, given-back, sealed-does, sent-yes}
 use Rattle.plain.specs.Events.{did, monitorSent}
 use Rattle.plain.specs.Lines.{withDue, lineAt, putLine}
-use Rattle.replies.specs.Replies.{monitorReply}
+use Rattle.readings.specs.Readings.{monitorReply}
 use mathlib.Core.Path.{_∙_}
 use Prim.Native.Nat.{_≤_, _-_}
 use lib.ListN.{length, take, drop}

@@ -6,12 +6,13 @@ use borrow.Author.Needs.{needs}
 use Rattle.laws.proofs.Put.{then, kept}
 use Rattle.words.proofs.Laws.{stored}
 use Rattle.tables.specs.Held.{blankInput, blankRelay}
-use Rattle.replies.specs.Replies.{inputsOf, relaysOf, inputRow, relayRow, monitorReply}
+use Rattle.replies.specs.Replies.{inputsOf, relaysOf}
+use Rattle.readings.specs.Readings.{inputRow, relayRow, monitorReply}
 use Rattle.replies.proofs.Sending.{sent, unsent, byte-is, placed}
 use Rattle.replies.proofs.Beside.{Beside, beside-start, beside-turn, beside-end}
 use Rattle.replies.proofs.Places.{input-place, relay-place}
-use Rattle.replies.proofs.write_monitor.Statement.{statement}
-use Rattle.replies.proofs.write_monitor.Tie as tie
+use Rattle.readings.proofs.write_monitor.Statement.{statement}
+use Rattle.readings.proofs.write_monitor.Tie as tie
 
 abbrev Inv-loop : tie.InvT-loop
 Inv-loop out₀ t k₀ out k = Beside inputRow relayRow 8 1 17 8 (inputsOf t) (relaysOf t) out₀ out k

@@ -12,12 +12,12 @@ use Rattle.laws.proofs.Put.{then, one, kept}
 use Rattle.laws.proofs.Rows.{Writing, begin, row-turn, end}
 use Rattle.words.specs.Words.{bytesOf}
 use Rattle.words.proofs.Laws.{stored}
-use Rattle.replies.specs.Replies.{blockOf, entryOf, idCount, idsIn, devicesReply}
+use Rattle.readings.specs.Readings.{blockOf, entryOf, idCount, idsIn, devicesReply}
 use Rattle.replies.proofs.Sending.{sent, unsent}
-use Rattle.replies.proofs.Places.{length-ids, id-place, named}
-use Rattle.replies.proofs.Lengths.{entry-short}
-use Rattle.replies.proofs.write_devices.Statement.{statement}
-use Rattle.replies.proofs.write_devices.Tie as tie
+use Rattle.readings.proofs.Places.{length-ids, id-place, named}
+use Rattle.readings.proofs.Lengths.{entry-short}
+use Rattle.readings.proofs.write_devices.Statement.{statement}
+use Rattle.readings.proofs.write_devices.Tie as tie
 
 abbrev Inv-loop : tie.InvT-loop
 Inv-loop out₀ ids t n p₀ k₀ out p k = Writing (entryOf t) 27 p₀ n (idsIn ids) out₀ out p k

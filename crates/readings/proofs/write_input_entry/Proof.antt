@@ -11,10 +11,10 @@ use Rattle.words.specs.Words.{bytesOf}
 use Rattle.words.proofs.Laws.{stored}
 use Rattle.tables.specs.declared.Input.{Input}
 use Rattle.tables.specs.Alarms.{countAlarm}
-use Rattle.replies.specs.Replies.{readings, inputBlock}
+use Rattle.readings.specs.Readings.{readings, inputBlock}
 use Rattle.replies.proofs.Sending.{byte-is}
-use Rattle.replies.proofs.write_input_entry.Statement.{statement}
-use Rattle.replies.proofs.write_input_entry.Tie as tie
+use Rattle.readings.proofs.write_input_entry.Statement.{statement}
+use Rattle.readings.proofs.write_input_entry.Tie as tie
 
 abbrev row : Input → List ℕ
 row i = readings i (countAlarm (i .count) (i .setpointOne)) (countAlarm (i .count) (i .setpointTwo))

@@ -1,8 +1,8 @@
 -- `replies::write_input_row`: the readings with the Monitor message's count alarms. Assumes nothing.
 use borrow.Author.Needs.{needs}
-use Rattle.replies.specs.Replies.{inputRow}
-use Rattle.replies.proofs.write_input_row.Statement.{statement}
-use Rattle.replies.proofs.write_input_row.Tie as tie
+use Rattle.readings.specs.Readings.{inputRow}
+use Rattle.readings.proofs.write_input_row.Statement.{statement}
+use Rattle.readings.proofs.write_input_row.Tie as tie
 
 returns : tie.Need-returns
 unfolding inputRow

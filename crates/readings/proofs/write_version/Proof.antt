@@ -5,8 +5,8 @@ use borrow.Author.Needs.{needs}
 use lib.ListN.{length-set}
 use Rattle.laws.proofs.Put.{then, one}
 use Rattle.words.proofs.Laws.{stored}
-use Rattle.replies.proofs.write_version.Statement.{statement}
-use Rattle.replies.proofs.write_version.Tie as tie
+use Rattle.readings.proofs.write_version.Statement.{statement}
+use Rattle.readings.proofs.write_version.Tie as tie
 
 same-length : tie.Need-same-length
 same-length c = c .before .out .given ∙ simp length-set

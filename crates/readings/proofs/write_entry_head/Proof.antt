@@ -3,8 +3,8 @@ use native.Mathlib.Omega.{arith}
 use borrow.Author.Needs.{needs}
 use Rattle.laws.proofs.Put.{then}
 use Rattle.words.proofs.Laws.{stored}
-use Rattle.replies.proofs.write_entry_head.Statement.{statement}
-use Rattle.replies.proofs.write_entry_head.Tie as tie
+use Rattle.readings.proofs.write_entry_head.Statement.{statement}
+use Rattle.readings.proofs.write_entry_head.Tie as tie
 
 returns : tie.Need-returns
 returns c =

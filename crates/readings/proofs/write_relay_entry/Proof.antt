@@ -8,10 +8,10 @@ use Rattle.laws.specs.Put.{Wrote}
 use Rattle.laws.proofs.Put.{then, kept}
 use Rattle.words.specs.Words.{bytesOf}
 use Rattle.words.proofs.Laws.{stored}
-use Rattle.replies.specs.Replies.{oneWhen, relayBlock}
+use Rattle.readings.specs.Readings.{oneWhen, relayBlock}
 use Rattle.replies.proofs.Sending.{byte-is}
-use Rattle.replies.proofs.write_relay_entry.Statement.{statement}
-use Rattle.replies.proofs.write_relay_entry.Tie as tie
+use Rattle.readings.proofs.write_relay_entry.Statement.{statement}
+use Rattle.readings.proofs.write_relay_entry.Tie as tie
 
 -- what is written when the usage is
 used : (c : tie.After-put) → let a = c .before .before .before .before .before .before .before .before .before .args in

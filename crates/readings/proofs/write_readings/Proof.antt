@@ -9,10 +9,10 @@ use Rattle.laws.proofs.Put.{then, kept}
 use Rattle.words.specs.Words.{bytesOf}
 use Rattle.words.proofs.Laws.{stored}
 use Rattle.tables.specs.Alarms.{alarmState}
-use Rattle.replies.specs.Replies.{oneWhen}
+use Rattle.readings.specs.Readings.{oneWhen}
 use Rattle.replies.proofs.Sending.{byte-is}
-use Rattle.replies.proofs.write_readings.Statement.{statement}
-use Rattle.replies.proofs.write_readings.Tie as tie
+use Rattle.readings.proofs.write_readings.Statement.{statement}
+use Rattle.readings.proofs.write_readings.Tie as tie
 
 -- what is written when the count is
 counted : (c : tie.After-put) → let a = c .before .before .before .before .before .before .before .args in
