@@ -1,7 +1,6 @@
-// What a message's content asks for. This crate alone knows how a content is laid out: a content and the sender's rank come in, an order or
-// the number of the refusal goes out, judged in the order 8, 9, 10, 11. In types 5 and 10 the request or action is judged (11) as soon as
-// the content holds it, before the length (10). Fields are taken off a content's front, never past its end, by a reader that holds the
-// content and how much of it is taken. Assumes nothing of its callers.
+// What a message's content asks for. This crate alone knows where a field stands in a content: a content and the sender's rank come in, an
+// order or the number of the refusal goes out, judged in the order 8, 9, 10, 11; the crate layouts judges the numbers. Fields are taken off a
+// content's front, never past its end, by a reader that holds the content and how much of it is taken. Assumes nothing of its callers.
 
 ghost use mathlib.Core.Path.{_≡_};
 ghost use Prim.Native.Nat.{_+_, _%_, _≤_};
@@ -9,34 +8,9 @@ ghost use lib.ListN.{length, drop};
 ghost use Rattle.words.specs.Words.{numberAt};
 ghost use Rattle.orders.specs.Entries.{fitsExactly, entryOf};
 ghost use Rattle.orders.specs.Fields.{onwardOf, takenOf, readerOf, fieldOff, fieldsOf};
-ghost use Rattle.orders.specs.Layouts.{sizedRequest, judgeRequest, onChannel, onBlock, judgeCommand, judgeRead, judgeEnumerate};
+ghost use Rattle.layouts.specs.Layouts.{judgeRead};
 ghost use Rattle.orders.specs.Orders.{requestOf, setClockOf, commandOf, readOf, writeOf, enumerateOf, orderOf};
-
-// What a message orders, or the number of its refusal.
-pub enum Order {
-    Refused(u8),
-    // requests 0, 1, 2, 4 and 5
-    Clock,
-    Monitor,
-    Usage,
-    MonitorOff,
-    MonitorOn,
-    SetClock(u64),
-    // actions 1, 2, 3, 5, 8 and 9 with their channel, 1 to 8
-    Close(u16),
-    Open(u16),
-    Toggle(u16),
-    ClearCount(u16),
-    ClearInputUsage(u16),
-    ClearRelayUsage(u16),
-    // action 10: mask and state
-    Block(u8, u8),
-    // ReadDevices and WriteDevices with their count
-    Read(u16),
-    Write(u16),
-    // EnumerateDevices with its flags, 1 to 3
-    Enumerate(u8),
-}
+use layouts::Order;
 
 // One entry of WriteDevices. Flags, count and state are read where a block has them; how much of that the block does have, size says.
 pub struct Entry {
@@ -183,45 +157,6 @@ fn two_behind_type(content: &[u8]) -> u16
     two_bytes(taken.second)
 }
 
-// In the judges, n is the content's length.
-
-// An order by request, if the content has a request's length.
-fn sized_request(n: usize, order: Order) -> Order
-    ensures { λ o. ⌜ o ≡ sizedRequest n order ⌝ }
-{
-    if n == 3 {
-        return order;
-    }
-    if n == 7 {
-        return order;
-    }
-    Order::Refused(10)
-}
-
-fn judge_request(n: usize, request: u16) -> Order
-    ensures { λ o. ⌜ o ≡ judgeRequest n request ⌝ }
-{
-    if n < 3 {
-        return Order::Refused(10);
-    }
-    if request == 0 {
-        return sized_request(n, Order::Clock);
-    }
-    if request == 1 {
-        return sized_request(n, Order::Monitor);
-    }
-    if request == 2 {
-        return sized_request(n, Order::Usage);
-    }
-    if request == 4 {
-        return sized_request(n, Order::MonitorOff);
-    }
-    if request == 5 {
-        return sized_request(n, Order::MonitorOn);
-    }
-    Order::Refused(11)
-}
-
 // 5 Request: request (2), optionally an interval (4), which is not used.
 fn request(content: &[u8], rank: u8) -> Order
     ensures { λ o. ⌜ o ≡ requestOf (now (content .entry)) rank ⌝ }
@@ -229,7 +164,7 @@ fn request(content: &[u8], rank: u8) -> Order
     if rank < 1 {
         return Order::Refused(9);
     }
-    judge_request(content.len(), two_behind_type(content))
+    layouts::judge_request(content.len(), two_behind_type(content))
 }
 
 // 7 Set clock: the time (8).
@@ -246,62 +181,6 @@ fn set_clock(content: &[u8], rank: u8) -> Order
     Order::SetClock(taken.second)
 }
 
-// An order on a channel, if the content has a command's length and there is such a channel.
-fn on_channel(n: usize, channel: u16, order: Order) -> Order
-    ensures { λ o. ⌜ o ≡ onChannel n channel order ⌝ }
-{
-    if n != 4 {
-        return Order::Refused(10);
-    }
-    if channel < 1 {
-        return Order::Refused(11);
-    }
-    if 8 < channel {
-        return Order::Refused(11);
-    }
-    order
-}
-
-// An order on a block of relays, if the content has a command's length.
-fn on_block(n: usize, mask: u8, state: u8) -> Order
-    ensures { λ o. ⌜ o ≡ onBlock n mask state ⌝ }
-{
-    if n != 4 {
-        return Order::Refused(10);
-    }
-    Order::Block(mask, state)
-}
-
-fn judge_command(n: usize, action: u8, channel: u16, mask: u8, state: u8) -> Order
-    ensures { λ o. ⌜ o ≡ judgeCommand n action channel mask state ⌝ }
-{
-    if n < 2 {
-        return Order::Refused(10);
-    }
-    if action == 1 {
-        return on_channel(n, channel, Order::Close(channel));
-    }
-    if action == 2 {
-        return on_channel(n, channel, Order::Open(channel));
-    }
-    if action == 3 {
-        return on_channel(n, channel, Order::Toggle(channel));
-    }
-    if action == 5 {
-        return on_channel(n, channel, Order::ClearCount(channel));
-    }
-    if action == 8 {
-        return on_channel(n, channel, Order::ClearInputUsage(channel));
-    }
-    if action == 9 {
-        return on_channel(n, channel, Order::ClearRelayUsage(channel));
-    }
-    if action == 10 {
-        return on_block(n, mask, state);
-    }
-    Order::Refused(11)
-}
-
 // 10 Command: action (1), then a channel (2), or a mask (1) and a state (1) in its place.
 fn command(content: &[u8], rank: u8) -> Order
     ensures { λ o. ⌜ o ≡ commandOf (now (content .entry)) rank ⌝ }
@@ -316,7 +195,7 @@ fn command(content: &[u8], rank: u8) -> Order
     let channel = two_bytes(named.third);
     let mask = one_byte(masked.third);
     let state = one_byte(masked.fourth);
-    judge_command(content.len(), action, channel, mask, state)
+    layouts::judge_command(content.len(), action, channel, mask, state)
 }
 
 fn wide(number: u16) -> usize
@@ -386,21 +265,6 @@ fn write(content: &[u8], rank: u8) -> Order
     Order::Refused(10)
 }
 
-fn judge_enumerate(n: usize, flags: u8) -> Order
-    ensures { λ o. ⌜ o ≡ judgeEnumerate n flags ⌝ }
-{
-    if n != 2 {
-        return Order::Refused(10);
-    }
-    if flags < 1 {
-        return Order::Refused(11);
-    }
-    if 3 < flags {
-        return Order::Refused(11);
-    }
-    Order::Enumerate(flags)
-}
-
 // 26 EnumerateDevices: flags (1).
 fn enumerate(content: &[u8], rank: u8) -> Order
     ensures { λ o. ⌜ o ≡ enumerateOf (now (content .entry)) rank ⌝ }
@@ -409,7 +273,7 @@ fn enumerate(content: &[u8], rank: u8) -> Order
         return Order::Refused(9);
     }
     let taken = fields(content, 0, 1, 1, 0, 0);
-    judge_enumerate(content.len(), one_byte(taken.second))
+    layouts::judge_enumerate(content.len(), one_byte(taken.second))
 }
 
 // What a content orders at a rank, or the number of its refusal. The rank is each type's to judge, for a type that is not offered comes first.

@@ -15,7 +15,7 @@ ghost use Rattle.writes.specs.Writes.{writtenOf};
 ghost use Rattle.plain.specs.Serving.{servedContent, servedCall};
 ghost use Rattle.plain.specs.Calls.{servedOf, given, sealedReply, sealedServed, Does};
 use changes::Changed;
-use orders::Order;
+use layouts::Order;
 use tables::Tables;
 use writes::Written;
 

@@ -19,7 +19,7 @@ use Rattle.words.specs.Words.{fits, numberAt}
 use Rattle.framing.specs.Cut.{need, whole, cuts, messages, seen}
 use Rattle.framing.specs.Reading.{start}
 use Rattle.changes.specs.Answers.{onRelay}
-use Rattle.orders.specs.Layouts.{onChannel, judgeCommand}
+use Rattle.layouts.specs.Layouts.{onChannel, judgeCommand}
 use Rattle.orders.specs.Orders.{commandOf, orderOf}
 use Rattle.readings.specs.Readings.{monitorReply}
 use Rattle.plain.specs.declared.Plain.{Plain}

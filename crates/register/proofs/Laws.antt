@@ -25,9 +25,9 @@ use Rattle.framing.specs.Reading.{start, gotOf}
 use Rattle.tables.specs.declared.Tables.{Tables}
 use Rattle.tables.specs.Time.{passed, clockSet}
 use Rattle.tables.proofs.Theorems as tables
-use Rattle.orders.specs.declared.Order.{Order}
-use Rattle.orders.specs.declared.Order.the-variants.{Refused, SetClock}
-use Rattle.orders.specs.Layouts.{judgeSetClock}
+use Rattle.layouts.specs.declared.Order.{Order}
+use Rattle.layouts.specs.declared.Order.the-variants.{Refused, SetClock}
+use Rattle.layouts.specs.Layouts.{judgeSetClock}
 use Rattle.orders.specs.Orders.{setClockOf, orderOf}
 use Rattle.plain.specs.declared.Plain.{Plain}
 use Rattle.plain.specs.Lines.{withDue, withTables, lineAt}

@@ -13,7 +13,7 @@ use Rattle.changes.specs.Commands.{masked, blockOf}
 use Rattle.tables.specs.Devices.{idOf, firstWith, deviceOf}
 use Rattle.changes.specs.Entries.{inputWritten, writeInput}
 use Rattle.orders.specs.Entries.{fitsExactly}
-use Rattle.orders.specs.Layouts.{sizedRequest, judgeRequest, onChannel, onBlock, judgeCommand, judgeRead, judgeWrite}
+use Rattle.layouts.specs.Layouts.{sizedRequest, judgeRequest, onChannel, onBlock, judgeCommand, judgeRead, judgeWrite}
 use Rattle.orders.specs.Orders.{requestOf, commandOf, readOf, writeOf, orderOf}
 use Rattle.readings.specs.Readings as readings
 use Rattle.replies.specs.Replies.{inputsOf, relaysOf}
