@@ -20,7 +20,7 @@ use Rattle.plain.specs.declared.Served.{Served}
 use Rattle.plain.specs.Lines.{isOpen}
 use Rattle.plain.specs.Events.{Did, refused}
 use Rattle.plain.specs.Calls.{given, Does}
-use Rattle.plain.specs.Serving.{servedContent, servedCall, servedMessage}
+use Rattle.serving.specs.Serving.{servedContent, servedCall, servedMessage}
 use Rattle.board.specs.declared.Board.{Board}
 use Rattle.board.specs.declared.Done.{Done}
 use Rattle.board.specs.Held.{madeOf, putHalf}

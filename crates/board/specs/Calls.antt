@@ -14,7 +14,7 @@ use Rattle.framing.specs.Reading.{start, Run, runOf, gotOf, halfAfter}
 use Rattle.plain.specs.declared.Plain.{Plain}
 use Rattle.plain.specs.Lines.{isOpen}
 use Rattle.plain.specs.Events.{Did, did, refused, tooShort, leveled, timePassed, connected, closed, collected}
-use Rattle.plain.specs.Serving.{servedMessage}
+use Rattle.serving.specs.Serving.{servedMessage}
 use Rattle.board.specs.declared.Board.{Board}
 use Rattle.board.specs.declared.Done.{Done}
 use Rattle.board.specs.Held.{boardOf, halfAt, putHalf}

@@ -238,7 +238,7 @@ fn judge_message(p: Plain, c: u8, len: u16, sum: u16, room: &[u8], reply: &mut [
     let n = len as usize;
     let j = framing::judge(len, sum, room, false);
     match j {
-        Judged::Whole => plain::serve(p, c, &room[..n], reply),
+        Judged::Whole => serving::serve(p, c, &room[..n], reply),
         Judged::TooLong => unchanged(p, 6),
         Judged::BadSum => unchanged(p, 7),
     }

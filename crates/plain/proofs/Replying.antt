@@ -1,6 +1,6 @@
 -- A reply's content written behind the header's place, and sealed. Assumes nothing.
 use mathlib.Core.Path.{_≡_, refl, ap, sym, _∙_}
-use mathlib.Core.Bool.{Bool, true, false}
+use mathlib.Core.Bool.{true, false}
 use mathlib.Core.List.{List, [], _∷_, _++_, append-nil}
 use Prim.Native.Nat.{ℕ, _+_, _-_, _≤_}
 use native.Mathlib.Omega.{arith}
@@ -17,7 +17,6 @@ use Rattle.plain.specs.declared.Plain.{Plain}
 use Rattle.plain.specs.declared.Served.{Served}
 use Rattle.plain.specs.Calls.{servedOf, given, sealedReply, sealedServed, Does}
 use Rattle.plain.specs.Events.{Did, did, sealing}
-use Rattle.plain.specs.Obeying.{monitorSet, clockTold}
 
 -- ---- the part behind the header, lent to a writer and given back
 
@@ -75,12 +74,3 @@ replied-does h s e = record { gives = e ∙ rw (sent-yes h s .0); leaves = sent-
 -- served with no reply
 pub silent : {d : Did} {o : List ℕ} {r : Served} → d .reply ≡ [] → r ≡ given d → Does d o o r
 silent {d} {o} e g = record { gives = g; leaves = rw e (sym (put-none 0 o)) }
-
--- the orders that concern a connection or the clock alone send nothing
-pub set-silent : (c : ℕ) (on : Bool) (p : Plain) → monitorSet c on p .reply ≡ []
-unfolding monitorSet
-set-silent c on p = refl
-
-pub clock-silent : (v : ℕ) (p : Plain) → clockTold v p .reply ≡ []
-unfolding clockTold
-clock-silent v p = refl

@@ -1,6 +1,6 @@
-// The plain machine: it serves whole messages singly and does the other events. It knows no pieces and no half-read messages.
-// What it holds are the tables and the four connections; the due marks are set here, in one place.
-// Every public function takes every input: any connection, any rank, any content, any reply buffer, and any state, nonsense included.
+// The plain machine: the tables and the four connections, what the events besides bytes do to them, and the due marks, which are set here, in
+// one place. It knows no messages, no pieces and no half-read messages.
+// Every public function takes every input: any connection, any rank, any reply buffer, and any state, nonsense included.
 
 ghost use mathlib.Core.Path.{_≡_};
 ghost use mathlib.Core.Bool.{_&&_};
@@ -10,14 +10,9 @@ ghost use lib.ListN.{length, getD};
 ghost use Rattle.plain.specs.Lines.{shutLine, hasRank, openedLine, withDue, withTables, putLine, isOpen};
 ghost use Rattle.plain.specs.Marks.{watches, markedLine, marked};
 ghost use Rattle.plain.specs.Events.{changedTo, leveled, timePassed, connected, closed, monitorSent, collected};
-ghost use Rattle.plain.specs.Obeying.{monitorSet, clockTold, wrote, obeyed};
-ghost use Rattle.writes.specs.Writes.{writtenOf};
-ghost use Rattle.plain.specs.Serving.{servedContent, servedCall};
 ghost use Rattle.plain.specs.Calls.{servedOf, given, sealedReply, sealedServed, Does};
 use changes::Changed;
-use layouts::Order;
 use tables::Tables;
-use writes::Written;
 
 // A connection, without its half-read message. A shut one is all zero.
 #[repr(C)]
@@ -42,7 +37,7 @@ pub struct Served {
     pub len: usize,
 }
 
-fn no_reply(plain: Plain, answer: u8) -> Served
+pub fn no_reply(plain: Plain, answer: u8) -> Served
     ensures { λ r. ⌜ r ≡ servedOf plain answer 0 ⌝ }
 {
     Served {
@@ -150,7 +145,7 @@ fn mark_lines(lines: [Line; 4]) -> [Line; 4]
 }
 
 // The tables after a change, and the marks that follow from it.
-fn after(p: Plain, t: Tables, changed: bool) -> Plain
+pub fn after(p: Plain, t: Tables, changed: bool) -> Plain
     ensures { λ r. ⌜ r ≡ marked changed (withTables t p) ⌝ }
 {
     let lines = p.lines;
@@ -164,7 +159,7 @@ fn after(p: Plain, t: Tables, changed: bool) -> Plain
     Plain { tables: t, lines }
 }
 
-fn change(p: Plain, r: Changed) -> Served
+pub fn change(p: Plain, r: Changed) -> Served
     ensures { λ s. ⌜ s ≡ given (changedTo r p) ⌝ }
 {
     let t = r.tables;
@@ -220,7 +215,7 @@ pub fn close(p: Plain, c: u8) -> Served
 }
 
 // The header is put before a reply's content that stands from the sixth byte on; where there is none, nothing is done.
-fn seal(s: Served, reply: &mut [u8]) -> Served
+pub fn seal(s: Served, reply: &mut [u8]) -> Served
     ensures { λ r. ⌜ (r ≡ sealedServed s (now (reply .entry))) × (now (reply .exit) ≡ sealedReply (s .len) (now (reply .entry))) ⌝ }
 {
     let n = s.len;
@@ -235,7 +230,7 @@ fn seal(s: Served, reply: &mut [u8]) -> Served
     }
 }
 
-fn replied(plain: Plain, len: usize) -> Served
+pub fn replied(plain: Plain, len: usize) -> Served
     ensures { λ r. ⌜ r ≡ servedOf plain 1 len ⌝ }
 {
     Served {
@@ -275,95 +270,4 @@ pub fn collect(p: Plain, c: u8, reply: &mut [u8]) -> Served
         return send_monitor(p, at, reply);
     }
     no_reply(p, 0)
-}
-
-// ---- messages
-
-// An order that concerns the connection alone: Monitor on or off. Off clears the mark, on leaves it.
-fn set_monitor(p: Plain, at: usize, on: bool) -> Served
-    requires { ⌜ at < 4 ⌝ }
-    ensures { λ r. ⌜ r ≡ given (monitorSet at on p) ⌝ }
-{
-    let lines = p.lines;
-    let mut line = lines[at];
-    line.monitor = on;
-    line.due = both(on, line.due);
-    no_reply(put_line(p, at, line), 1)
-}
-
-fn set_clock(p: Plain, v: u64) -> Served
-    ensures { λ r. ⌜ r ≡ given (clockTold v p) ⌝ }
-{
-    let t = p.tables;
-    let mut next = p;
-    next.tables = tables::set_clock(t, v);
-    no_reply(next, 1)
-}
-
-// WriteDevices: its entries are done in order, and the number written is the reply.
-fn write(p: Plain, content: &[u8], count: u16, out: &mut [u8]) -> Served
-    requires { ⌜ 4091 ≤ length (now out) ⌝ }
-    ensures { λ r. ⌜ Does (wrote (writtenOf (now (content .entry)) count (p .tables)) p) (now (out .entry)) (now (out .exit)) r ⌝ }
-{
-    let t = p.tables;
-    let w = writes::apply(content, count, t);
-    let n = w.tables;
-    let len = replies::write_count(out, w.written);
-    replied(after(p, n, w.changed), len)
-}
-
-// What an order from the connection at `at` does, with the content of its reply written from the front of out.
-fn obey(p: Plain, at: usize, content: &[u8], out: &mut [u8], order: Order) -> Served
-    requires { ⌜ (at < 4) × (4091 ≤ length (now out)) × (length (now content) ≤ 1024) ⌝ }
-    ensures { λ r. ⌜ Does (obeyed at (now (content .entry)) order p) (now (out .entry)) (now (out .exit)) r ⌝ }
-{
-    let t = p.tables;
-    match order {
-        Order::Refused(n) => no_reply(p, n),
-        Order::Clock => replied(p, replies::write_clock(out, t)),
-        Order::Monitor => replied(p, readings::write_monitor(out, t)),
-        Order::Usage => replied(p, replies::write_usages(out, t)),
-        Order::MonitorOff => set_monitor(p, at, false),
-        Order::MonitorOn => set_monitor(p, at, true),
-        Order::SetClock(v) => set_clock(p, v),
-        Order::Close(k) => change(p, changes::close_relay(t, k)),
-        Order::Open(k) => change(p, changes::open_relay(t, k)),
-        Order::Toggle(k) => change(p, changes::toggle_relay(t, k)),
-        Order::ClearCount(k) => change(p, changes::clear_count(t, k)),
-        Order::ClearInputUsage(k) => change(p, changes::clear_input_usage(t, k)),
-        Order::ClearRelayUsage(k) => change(p, changes::clear_relay_usage(t, k)),
-        Order::Block(mask, state) => change(p, changes::block(t, mask, state)),
-        Order::Read(_) => replied(p, readings::write_devices(out, orders::ids(content), t)),
-        Order::Write(count) => write(p, content, count, out),
-        Order::Enumerate(flags) => replied(p, replies::write_enumeration(out, flags)),
-    }
-}
-
-// A content from the connection at `at`: it is decoded, obeyed and answered, the header put before the reply's content.
-fn serve_content(p: Plain, at: usize, content: &[u8], reply: &mut [u8]) -> Served
-    requires { ⌜ (at < 4) × (4096 ≤ length (now reply)) × (length (now content) ≤ 1024) ⌝ }
-    ensures { λ r. ⌜ Does (servedContent at (now (content .entry)) p) (now (reply .entry)) (now (reply .exit)) r ⌝ }
-{
-    let lines = p.lines;
-    let line = lines[at];
-    let order = orders::decode(content, line.rank);
-    let s = obey(p, at, content, &mut reply[5..], order);
-    seal(s, reply)
-}
-
-// A content whose frame was judged whole.
-pub fn serve(p: Plain, c: u8, content: &[u8], reply: &mut [u8]) -> Served
-    ensures { λ r. ⌜ Does (servedCall c (now (content .entry)) (length (now (reply .entry))) p) (now (reply .entry)) (now (reply .exit)) r ⌝ }
-{
-    let lines = p.lines;
-    if !is_open(lines, c) {
-        return no_reply(p, 3);
-    }
-    if reply.len() < 4096 {
-        return no_reply(p, 4);
-    }
-    if 1024 < content.len() {
-        return no_reply(p, 6);
-    }
-    serve_content(p, c as usize, content, reply)
 }

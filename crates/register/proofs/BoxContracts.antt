@@ -24,9 +24,9 @@ use Rattle.readings.proofs.Lengths.{length-monitor}
 use Rattle.plain.specs.declared.Plain.{Plain}
 use Rattle.plain.specs.Lines.{lineAt}
 use Rattle.plain.specs.Events.{Did, framed, leveled, timePassed, connected, closed, monitorSent}
-use Rattle.plain.specs.Obeying.{obeyed}
-use Rattle.plain.specs.Serving.{servedContent, servedMessage}
-use Rattle.plain.proofs.Lengths as plain
+use Rattle.serving.specs.Obeying.{obeyed}
+use Rattle.serving.specs.Serving.{servedContent, servedMessage}
+use Rattle.serving.proofs.Lengths as serving
 use Rattle.board.specs.declared.Board.{Board}
 use Rattle.board.specs.declared.Done.{Done}
 use Rattle.board.specs.Calls.{Effect, Answers, answered, fed, levelCall, passCall, connectCall, closeCall, collectCall, bytesCall}
@@ -53,7 +53,7 @@ module _ (c : ℕ) (p : Plain) where
   unfolding servedContent
   frame-reply sum s h =
       frame-cases c sum s p (λ d. length (d .reply) ≤ 3437)
-      (omega (arith, framed-length (obeyed c s (orderOf s (lineAt c p .rank)) p .reply), plain.reply-short c s (orderOf s (lineAt c p .rank)) p h))
+      (omega (arith, framed-length (obeyed c s (orderOf s (lineAt c p .rank)) p .reply), serving.reply-short c s (orderOf s (lineAt c p .rank)) p h))
       (omega arith)
 
   answered-reply : (room : List ℕ) (o : Outcome) → length room ≤ 1024 → length (answered c (gotOf room o) p .reply) ≤ 3437

@@ -17,7 +17,7 @@ use Rattle.plain.specs.declared.Plain.{Plain}
 use Rattle.plain.specs.Lines.{isOpen}
 use Rattle.plain.specs.Events as plain
 use Rattle.plain.specs.Events.{tooShort, connected, closed}
-use Rattle.plain.specs.Serving.{servedMessage}
+use Rattle.serving.specs.Serving.{servedMessage}
 use Rattle.plain.proofs.Lines.{open-below}
 use Rattle.board.specs.Held.{halfAt}
 use Rattle.board.specs.Rooms.{roomAt}

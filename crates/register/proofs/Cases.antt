@@ -10,7 +10,7 @@ use Rattle.framing.specs.Judge.{unchecked}
 use Rattle.plain.specs.declared.Plain.{Plain}
 use Rattle.plain.specs.Lines.{shutLine, openedLine, lineAt, putLine, isConnection, isOpen}
 use Rattle.plain.specs.Events.{Did, did, refused, tooShort, connected, closed, monitorSent, collected}
-use Rattle.plain.specs.Serving.{servedContent, servedMessage}
+use Rattle.serving.specs.Serving.{servedContent, servedMessage}
 use Rattle.board.specs.declared.Board.{Board}
 use Rattle.board.specs.Rooms.{putRoom}
 use Rattle.board.specs.Calls.{Effect, still, fed, fedCall, bytesCall, roomsAfter}

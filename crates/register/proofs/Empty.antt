@@ -26,8 +26,8 @@ use Rattle.plain.specs.declared.Plain.{Plain}
 use Rattle.plain.specs.Lines.{openedLine, isOpen}
 use Rattle.plain.specs.Marks.{markedLine, marked}
 use Rattle.plain.specs.Events.{connected, monitorSent, collected}
-use Rattle.plain.specs.Obeying.{obeyed}
-use Rattle.plain.specs.Serving.{servedContent, servedMessage}
+use Rattle.serving.specs.Obeying.{obeyed}
+use Rattle.serving.specs.Serving.{servedContent, servedMessage}
 use Rattle.board.specs.declared.Settings.{Settings}
 use Rattle.board.specs.Held.{halfAt}
 use Rattle.board.specs.PowerUp.{poweredUp}

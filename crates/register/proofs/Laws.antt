@@ -32,8 +32,8 @@ use Rattle.orders.specs.Orders.{setClockOf, orderOf}
 use Rattle.plain.specs.declared.Plain.{Plain}
 use Rattle.plain.specs.Lines.{withDue, withTables, lineAt}
 use Rattle.plain.specs.Events.{Did, did, refused, leveled, timePassed, connected, closed, monitorSent, collected}
-use Rattle.plain.specs.Obeying.{clockTold, obeyed}
-use Rattle.plain.specs.Serving.{servedContent, servedMessage}
+use Rattle.serving.specs.Obeying.{clockTold, obeyed}
+use Rattle.serving.specs.Serving.{servedContent, servedMessage}
 use Rattle.board.specs.declared.Board.{Board}
 use Rattle.board.specs.Held.{boardOf}
 use Rattle.board.specs.Calls.{doneOf, dropped, answered, fed, levelCall, passCall, connectCall, closeCall, collectCall, bytesCall}

@@ -12,7 +12,7 @@ use Rattle.laws.specs.Put.{put}
 use Rattle.framing.specs.Reading.{stepOf, firstOf, afterOf, roomOf, runOf}
 use Rattle.plain.specs.Lines.{openedLine, isOpen}
 use Rattle.plain.specs.Events.{connected, closed}
-use Rattle.plain.specs.Serving.{servedMessage}
+use Rattle.serving.specs.Serving.{servedMessage}
 use Rattle.board.specs.PowerUp.{poweredUp}
 use Rattle.board.specs.Calls.{connectCall, closeCall, bytesCall, roomsAfter}
 use Rattle.demand.specs.Demand.{Call, Answer, trace, Demand3}

@@ -23,8 +23,8 @@ use Rattle.plain.specs.declared.Plain.{Plain}
 use Rattle.plain.specs.Lines.{lineAt}
 use Rattle.plain.specs.Marks.{marked}
 use Rattle.plain.specs.Events.{Did, refused, changedTo, leveled, sealing}
-use Rattle.plain.specs.Obeying.{monitorSet, clockTold, obeyed}
-use Rattle.plain.specs.Serving.{servedContent, servedMessage}
+use Rattle.serving.specs.Obeying.{monitorSet, clockTold, obeyed}
+use Rattle.serving.specs.Serving.{servedContent, servedMessage}
 use Rattle.register.specs.Box.{beforeBytes}
 use Rattle.register.proofs.Cases.{frame-cases}
 

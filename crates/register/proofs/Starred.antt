@@ -22,8 +22,8 @@ use Rattle.writes.specs.Writes.{deviceDone, writtenFrom}
 use Rattle.plain.specs.Lines.{openedLine, isOpen}
 use Rattle.plain.specs.Marks.{markedLine, marked}
 use Rattle.plain.specs.Events.{leveled, connected, monitorSent, collected}
-use Rattle.plain.specs.Obeying.{monitorSet, obeyed}
-use Rattle.plain.specs.Serving.{servedContent, servedMessage}
+use Rattle.serving.specs.Obeying.{monitorSet, obeyed}
+use Rattle.serving.specs.Serving.{servedContent, servedMessage}
 use Rattle.board.specs.PowerUp.{poweredUp}
 use Rattle.board.specs.Calls.{levelCall, connectCall, collectCall, bytesCall, roomsAfter}
 use Rattle.register.specs.Starred.{Row, starredCases}

@@ -18,8 +18,8 @@ use Rattle.plain.specs.declared.Plain.{Plain}
 use Rattle.plain.specs.Lines.{shutLine, withDue, withTables, lineAt, isOpen}
 use Rattle.plain.specs.Marks.{watches, markedLine, marked}
 use Rattle.plain.specs.Events.{Did, leveled, timePassed, monitorSent, collected}
-use Rattle.plain.specs.Obeying.{monitorSet, clockTold, obeyed}
-use Rattle.plain.specs.Serving.{servedContent, servedMessage}
+use Rattle.serving.specs.Obeying.{monitorSet, clockTold, obeyed}
+use Rattle.serving.specs.Serving.{servedContent, servedMessage}
 use Rattle.register.proofs.Cases.{frame-cases, collect-cases}
 
 -- the connections after something that came from c: as they were, marked, or with another in c's place, which is as open as c was

@@ -9,7 +9,7 @@ use lib.ListN.{take}
 use Rattle.plain.specs.declared.Plain.{Plain}
 use Rattle.plain.specs.Lines.{isOpen}
 use Rattle.plain.specs.Events.{Did, tooShort, leveled, timePassed, connected, closed, collected}
-use Rattle.plain.specs.Serving.{servedMessage}
+use Rattle.serving.specs.Serving.{servedMessage}
 use Rattle.board.specs.declared.Board.{Board}
 use Rattle.board.specs.declared.Done.{Done}
 use Rattle.board.specs.declared.Settings.{Settings}

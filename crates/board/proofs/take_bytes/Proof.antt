@@ -8,7 +8,7 @@ use Rattle.laws.proofs.Put.{length-put}
 use Rattle.framing.specs.declared.Fed.{Fed}
 use Rattle.framing.specs.Reading.{Run}
 use Rattle.framing.proofs.Turns.{length-run}
-use Rattle.plain.specs.Serving.{servedMessage}
+use Rattle.serving.specs.Serving.{servedMessage}
 use Rattle.board.specs.Calls.{fed}
 use Rattle.board.specs.Rooms.{roomAt}
 use Rattle.board.specs.Held.{halfAt}

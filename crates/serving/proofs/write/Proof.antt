@@ -1,9 +1,9 @@
--- `plain::write`. Assumes nothing.
+-- `serving::write`. Assumes nothing.
 use native.Mathlib.Omega.{arith}
 use borrow.Author.Needs.{needs}
 use Rattle.plain.proofs.Replying.{replied-does}
-use Rattle.plain.proofs.write.Statement.{statement}
-use Rattle.plain.proofs.write.Tie as tie
+use Rattle.serving.proofs.write.Statement.{statement}
+use Rattle.serving.proofs.write.Tie as tie
 
 pub write-spec : {M : Type 1} → statement M
 write-spec =

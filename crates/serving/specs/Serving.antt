@@ -9,10 +9,10 @@ use Rattle.orders.specs.Orders.{orderOf}
 use Rattle.crc.specs.Crc.{crcOf}
 use Rattle.framing.specs.Cut.{Got, keepAlive, stray, tooLong, frame}
 use Rattle.framing.specs.Judge.{unchecked}
 use Rattle.plain.specs.declared.Plain.{Plain}
 use Rattle.plain.specs.Lines.{lineAt, isOpen}
 use Rattle.plain.specs.Events.{Did, refused, sealing, tooShort}
-use Rattle.plain.specs.Obeying.{obeyed}
+use Rattle.serving.specs.Obeying.{obeyed}
 
 -- a content whose frame was judged: "8, 9, 10, 11", or what it orders
 unfoldable pub servedContent : ℕ → List ℕ → Plain → Did

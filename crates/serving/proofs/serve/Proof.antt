@@ -1,12 +1,12 @@
--- `plain::serve`. Assumes nothing.
+-- `serving::serve`. Assumes nothing.
 use mathlib.Core.Path.{refl, sym, _∙_}
 use borrow.Author.Needs.{needs}
 use borrow.Author.Tests.{lt-ltb, le-ltb, not-true, not-false}
-use Rattle.plain.specs.Serving.{servedCall}
+use Rattle.serving.specs.Serving.{servedCall}
 use Rattle.plain.proofs.Lines.{open-below}
 use Rattle.plain.proofs.Replying.{silent}
-use Rattle.plain.proofs.serve.Statement.{statement}
-use Rattle.plain.proofs.serve.Tie as tie
+use Rattle.serving.proofs.serve.Statement.{statement}
+use Rattle.serving.proofs.serve.Tie as tie
 
 pub serve-spec : {M : Type 1} → statement M
 unfolding servedCall

@@ -1,17 +1,17 @@
--- `plain::serve_content`. Assumes nothing.
+-- `serving::serve_content`. Assumes nothing.
 use Prim.Native.Nat.{_≤_, _-_}
 use native.Mathlib.Nat.{le-trans}
 use native.Mathlib.Omega.{arith}
 use borrow.Author.Needs.{needs}
 use lib.ListN.{length, take, drop}
 use Rattle.orders.specs.Orders.{orderOf}
 use Rattle.plain.specs.Lines.{lineAt}
-use Rattle.plain.specs.Obeying.{obeyed}
-use Rattle.plain.specs.Serving.{servedContent}
-use Rattle.plain.proofs.Lengths.{reply-short}
+use Rattle.serving.specs.Obeying.{obeyed}
+use Rattle.serving.specs.Serving.{servedContent}
+use Rattle.serving.proofs.Lengths.{reply-short}
 use Rattle.plain.proofs.Replying.{part-long, given-back, sealed-does}
-use Rattle.plain.proofs.serve_content.Statement.{statement}
-use Rattle.plain.proofs.serve_content.Tie as tie
+use Rattle.serving.proofs.serve_content.Statement.{statement}
+use Rattle.serving.proofs.serve_content.Tie as tie
 
 pub serve-content-spec : {M : Type 1} → statement M
 unfolding servedContent

@@ -11,8 +11,8 @@ use Rattle.readings.specs.Readings.{devicesRoom}
 use Rattle.replies.proofs.Lengths.{length-clock, length-count, length-usages, length-enumeration}
 use Rattle.readings.proofs.Lengths.{length-monitor, length-devices}
 use Rattle.writes.specs.Writes.{writtenOf}
 use Rattle.plain.specs.declared.Plain.{Plain}
-use Rattle.plain.specs.Obeying.{monitorSet, clockTold, obeyed}
+use Rattle.serving.specs.Obeying.{monitorSet, clockTold, obeyed}
 
 pub either : (b : Bool) → cond b 132 4 ≤ 132
 either true = omega arith

@@ -1,15 +1,16 @@
--- `plain::obey`: each order by its own function. Assumes nothing.
+-- `serving::obey`: each order by its own function. Assumes nothing.
 use mathlib.Core.Path.{refl}
 use Rattle.tables.specs.Bits.{hasFlag}
 use native.Mathlib.Nat.{le-trans}
 use native.Mathlib.Omega.{arith}
 use borrow.Author.Needs.{needs}
 use Rattle.replies.proofs.Lengths.{length-enumeration}
-use Rattle.plain.specs.Obeying.{obeyed}
-use Rattle.plain.proofs.Lengths.{ids-room, either}
-use Rattle.plain.proofs.Replying.{replied-does, silent, set-silent, clock-silent}
-use Rattle.plain.proofs.obey.Statement.{statement}
-use Rattle.plain.proofs.obey.Tie as tie
+use Rattle.serving.specs.Obeying.{obeyed}
+use Rattle.serving.proofs.Lengths.{ids-room, either}
+use Rattle.plain.proofs.Replying.{replied-does, silent}
+use Rattle.serving.proofs.Silent.{set-silent, clock-silent}
+use Rattle.serving.proofs.obey.Statement.{statement}
+use Rattle.serving.proofs.obey.Tie as tie
 
 pub obey-spec : {M : Type 1} → statement M
 unfolding obeyed

@@ -1,8 +1,8 @@
--- `plain::set_clock`. Assumes nothing.
+-- `serving::set_clock`. Assumes nothing.
 use borrow.Author.Needs.{needs}
-use Rattle.plain.specs.Obeying.{clockTold}
-use Rattle.plain.proofs.set_clock.Statement.{statement}
-use Rattle.plain.proofs.set_clock.Tie as tie
+use Rattle.serving.specs.Obeying.{clockTold}
+use Rattle.serving.proofs.set_clock.Statement.{statement}
+use Rattle.serving.proofs.set_clock.Tie as tie
 
 pub set-clock-spec : {M : Type 1} → statement M
 unfolding clockTold
