@@ -9,10 +9,10 @@ use lib.Dec.{eqb, ltb}
 use lib.ListN.{length, take}
 use Rattle.laws.proofs.Put.{put-none}
 use Rattle.crc.specs.Crc.{crcOf}
-use Rattle.framing.specs.declared.Judged.the-variants.{TooLong, BadSum, Whole}
+use Rattle.frames.specs.declared.Judged.the-variants.{TooLong, BadSum, Whole}
 use Rattle.framing.specs.declared.Outcome.{Outcome}
 use Rattle.framing.specs.declared.Outcome.the-variants.{Message}
-use Rattle.framing.specs.Judge.{unchecked, judgeOf}
+use Rattle.frames.specs.Judge.{unchecked, judgeOf}
 use Rattle.framing.specs.declared.Half.{Half}
 use Rattle.framing.specs.Reading.{start, Run, gotOf, halfAfter}
 use Rattle.plain.specs.declared.Plain.{Plain}

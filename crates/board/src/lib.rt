@@ -15,9 +15,9 @@ ghost use Rattle.board.specs.Rooms.{roomAt, putRoom};
 ghost use Rattle.board.specs.Held.{madeOf, putHalf};
 ghost use Rattle.board.specs.PowerUp.{freshInput, freshRelay, poweredUp};
 ghost use Rattle.board.specs.Calls.{doneOf, dropped, levelCall, passCall, connectCall, closeCall, collectCall, answered, fed, fedCall, bytesCall, roomsAfter, Answers, Ready};
+use frames::Judged;
 use framing::Fed;
 use framing::Half;
-use framing::Judged;
 use framing::Outcome;
 use plain::Line;
 use plain::Plain;
@@ -236,7 +236,7 @@ fn judge_message(p: Plain, c: u8, len: u16, sum: u16, room: &[u8], reply: &mut [
     ensures { λ r. ⌜ Does (answered c (gotOf (now (room .entry)) (Outcome.Message len sum)) p) (now (reply .entry)) (now (reply .exit)) r ⌝ }
 {
     let n = len as usize;
-    let j = framing::judge(len, sum, room, false);
+    let j = frames::judge(len, sum, room, false);
     match j {
         Judged::Whole => serving::serve(p, c, &room[..n], reply),
         Judged::TooLong => unchanged(p, 6),

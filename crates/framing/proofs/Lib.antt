@@ -1,6 +1,5 @@
 pub mod Cutting
 pub mod Law
 pub mod Reading
-pub mod Sealing
 pub mod Turns
 pub mod Unique

@@ -1,4 +1,4 @@
-// How bytes become messages, and how a reply's content becomes a frame. This crate knows no message type.
+// How bytes become messages. This crate knows no message type and no checksum.
 // Its limit is the length of the room that it is lent: a message that does not fit is swallowed, none of its bytes judged or kept.
 // Every function takes every input: any half-read message (nonsense too), any room (an empty one too), any piece.
 
@@ -9,8 +9,6 @@ ghost use lib.Dec.{ltb};
 ghost use lib.ListN.{length};
 ghost use Rattle.laws.specs.Put.{put};
 ghost use Rattle.framing.specs.Reading.{half, afterOf, firstOf, stepOf, roomOf, runOf};
-ghost use Rattle.framing.specs.Judge.{unchecked, judgeOf, refusalOf};
-ghost use Rattle.framing.specs.Seal.{sealOf, sealEnd};
 
 // How far a message has been read: bytes taken, and what its header says so far.
 #[repr(C)]
@@ -32,12 +30,6 @@ pub enum Outcome {
 pub struct Fed {
     pub taken: usize,
     pub outcome: Outcome,
-}
-
-pub enum Judged {
-    TooLong,
-    BadSum,
-    Whole,
 }
 
 // A byte is never widened with its sign.
@@ -215,59 +207,5 @@ pub fn feed(half: Half, room: &mut [u8], piece: &[u8]) -> Fed
             }
         }
     };
-    end
-}
-
-fn passes(sum: u16, strict: bool) -> bool
-    ensures { λ r. ⌜ r ≡ unchecked sum strict ⌝ }
-{
-    if strict { false } else { sum == 65535 }
-}
-
-// A message that has ended: too long for the room, or with a checksum that differs, or whole.
-pub fn judge(len: u16, sum: u16, room: &[u8], strict: bool) -> Judged
-    ensures { λ r. ⌜ r ≡ judgeOf len sum (now (room .entry)) strict ⌝ }
-{
-    let n = len as usize;
-    if room.len() < n {
-        return Judged::TooLong;
-    }
-    if passes(sum, strict) {
-        return Judged::Whole;
-    }
-    let content = crc::crc16(&room[..n]);
-    if content == sum {
-        Judged::Whole
-    } else {
-        Judged::BadSum
-    }
-}
-
-// The answer number of a judgement, 0 for a whole message.
-pub fn refusal(j: Judged) -> u8
-    ensures { λ r. ⌜ r ≡ refusalOf j ⌝ }
-{
-    match j {
-        Judged::TooLong => 6,
-        Judged::BadSum => 7,
-        Judged::Whole => 0,
-    }
-}
-
-// The five header bytes before n content bytes that stand from the sixth byte on. Gives the frame's length.
-pub fn seal(buf: &mut [u8], n: usize) -> usize
-    ensures { λ r. ⌜ (r ≡ sealEnd (now (buf .entry)) n) × (now (buf .exit) ≡ sealOf (now (buf .entry)) n) ⌝ }
-{
-    if 65535 < n {
-        return 0;
-    }
-    let end = n + 5;
-    if buf.len() < end {
-        return 0;
-    }
-    let sum = crc::crc16(&buf[5..end]);
-    let a = words::put(buf, 0, 1, 1);
-    let b = words::put(buf, a, 2, n as u64);
-    words::put(buf, b, 2, sum as u64);
     end
 }

@@ -10,8 +10,8 @@ use lib.ListN.{length, take, drop, length-drop, drop-of-length-le}
 use lib.Seq.{take-all}
 use Rattle.laws.specs.Put.{put}
 use Rattle.laws.proofs.Put.{put-part, put-none, length-put}
-use Rattle.framing.specs.Seal.{frameOf, sealEnd}
-use Rattle.framing.proofs.Sealing.{seal-yes, seal-frame}
+use Rattle.frames.specs.Seal.{frameOf, sealEnd}
+use Rattle.frames.proofs.Sealing.{seal-yes, seal-frame}
 use Rattle.replies.specs.Replies.{Sent}
 use Rattle.plain.specs.declared.Plain.{Plain}
 use Rattle.plain.specs.declared.Served.{Served}

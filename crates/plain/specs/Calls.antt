@@ -7,7 +7,7 @@ use Prim.Native.Nat.{ℕ}
 use lib.Dec.{eqb}
 use lib.ListN.{length}
 use Rattle.laws.specs.Put.{put}
-use Rattle.framing.specs.Seal.{sealOf, sealEnd}
+use Rattle.frames.specs.Seal.{sealOf, sealEnd}
 use Rattle.plain.specs.declared.Plain.{Plain}
 use Rattle.plain.specs.declared.Served.{Served}
 use Rattle.plain.specs.Events.{Did}

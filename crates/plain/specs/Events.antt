@@ -8,7 +8,7 @@ use Rattle.changes.specs.declared.Changed.{Changed}
 use Rattle.changes.specs.Levels.{levelOf}
 use Rattle.tables.specs.Time.{passed}
 use Rattle.readings.specs.Readings.{monitorReply}
-use Rattle.framing.specs.Seal.{frameOf}
+use Rattle.frames.specs.Seal.{frameOf}
 use Rattle.plain.specs.declared.Plain.{Plain}
 use Rattle.plain.specs.Lines.{shutLine, openedLine, withDue, withTables, lineAt, putLine, isConnection, isOpen}
 use Rattle.plain.specs.Marks.{marked}

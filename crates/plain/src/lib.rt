@@ -226,7 +226,7 @@ pub fn seal(s: Served, reply: &mut [u8]) -> Served
     Served {
         plain,
         answer: s.answer,
-        len: framing::seal(reply, n),
+        len: frames::seal(reply, n),
     }
 }
 

@@ -6,7 +6,7 @@ use Prim.Native.Nat.{ℕ}
 use lib.Dec.{eqb, ltb}
 use Rattle.crc.specs.Crc.{crcOf}
 use Rattle.framing.specs.Cut.{frame}
-use Rattle.framing.specs.Judge.{unchecked}
+use Rattle.frames.specs.Judge.{unchecked}
 use Rattle.plain.specs.declared.Plain.{Plain}
 use Rattle.plain.specs.Lines.{shutLine, openedLine, lineAt, putLine, isConnection, isOpen}
 use Rattle.plain.specs.Events.{Did, did, refused, tooShort, connected, closed, monitorSent, collected}

@@ -8,7 +8,7 @@ use lib.ListN.{length}
 use Rattle.orders.specs.Orders.{orderOf}
 use Rattle.crc.specs.Crc.{crcOf}
 use Rattle.framing.specs.Cut.{Got, keepAlive, stray, tooLong, frame}
-use Rattle.framing.specs.Judge.{unchecked}
+use Rattle.frames.specs.Judge.{unchecked}
 use Rattle.plain.specs.declared.Plain.{Plain}
 use Rattle.plain.specs.Lines.{lineAt, isOpen}
 use Rattle.plain.specs.Events.{Did, refused, sealing, tooShort}

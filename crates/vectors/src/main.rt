@@ -46,8 +46,8 @@ fn verdict(o: Outcome, room: &[u8; 1024]) -> u8 {
         Outcome::KeepAlive => 2,
         Outcome::Stray => 5,
         Outcome::Message(len, sum) => {
-            let j = framing::judge(len, sum, room, false);
-            let no = framing::refusal(j);
+            let j = frames::judge(len, sum, room, false);
+            let no = frames::refusal(j);
             if no == 0 { 1 } else { no }
         }
     }

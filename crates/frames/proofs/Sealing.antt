@@ -14,11 +14,11 @@ use Rattle.words.specs.Words.{bytesOf, Stored}
 use Rattle.words.proofs.Laws.{stored}
 use Rattle.crc.specs.Crc.{crcOf}
 use Rattle.crc.proofs.Laws.{crc-bound}
 use Rattle.framing.specs.Cut.{two, need, whole, messages, frame, seen}
-use Rattle.framing.specs.Judge.{unchecked, judgeOf}
-use Rattle.framing.specs.Seal.{header, frameOf, sealable, sealOf, sealEnd}
-use Rattle.framing.specs.declared.Judged.the-variants.{Whole}
+use Rattle.frames.specs.Judge.{unchecked, judgeOf}
+use Rattle.frames.specs.Seal.{header, frameOf, sealable, sealOf, sealEnd}
+use Rattle.frames.specs.declared.Judged.the-variants.{Whole}
 use Rattle.framing.proofs.Cutting.{messages-whole}
 
 -- ---- the answers of `seal`
 
