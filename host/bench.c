@@ -10,6 +10,7 @@
 #define _POSIX_C_SOURCE 200809L
 
 #include "bare.h"
+#include "frame.h"
 #include "workloads.h"
 
 #include <stdio.h>
@@ -24,18 +25,6 @@ static const double LEAST = 500e-6;
 
 /* ---- Messages */
 
-static uint16_t crc16(const uint8_t *p, size_t n)
-{
-    unsigned crc = 0;
-    for (size_t i = 0; i < n; i++) {
-        crc ^= p[i];
-        for (int bit = 0; bit < 8; bit++) {
-            crc = crc & 1 ? crc >> 1 ^ 0xA001 : crc >> 1;
-        }
-    }
-    return (uint16_t)crc;
-}
-
 static void put(uint8_t *p, int size, uint64_t x)
 {
     for (int i = size - 1; i >= 0; i--, x >>= 8) {
@@ -46,9 +35,7 @@ static void put(uint8_t *p, int size, uint64_t x)
 /* The header before n content bytes that stand behind its place. Gives the frame's length. */
 static size_t seal(uint8_t *frame, size_t n)
 {
-    frame[0] = 0x01;
-    put(frame + 1, 2, n);
-    put(frame + 3, 2, crc16(frame + HEADER, n));
+    frame_head(frame, frame + HEADER, n);
     return HEADER + n;
 }
 

@@ -2,6 +2,7 @@
 #define _POSIX_C_SOURCE 200809L
 
 #include "box.h"
+#include "frame.h"
 
 #include <inttypes.h>
 #include <string.h>
@@ -122,28 +123,11 @@ size_t box_content(const box *b, const wellacorn_board *before, uint8_t c, came 
     return whole > HEADER && whole <= HEADER + WELLACORN_CONTENT ? whole - HEADER : 0;
 }
 
-/* ---- What the host itself says. The rule of the checksum: start at 0, a byte into the low end, eight steps to the right. */
-
-static uint16_t checksum(const uint8_t *bytes, size_t n)
-{
-    unsigned sum = 0;
-    for (size_t i = 0; i < n; i++) {
-        sum ^= bytes[i];
-        for (int step = 0; step < 8; step++) {
-            sum = sum & 1 ? sum >> 1 ^ 0xA001 : sum >> 1;
-        }
-    }
-    return (uint16_t)sum;
-}
+/* ---- What the host itself says. */
 
 size_t frame_of(uint8_t *frame, const uint8_t *content, size_t n)
 {
-    uint16_t sum = checksum(content, n);
-    frame[0] = 0x01;
-    frame[1] = (uint8_t)(n >> 8);
-    frame[2] = (uint8_t)n;
-    frame[3] = (uint8_t)(sum >> 8);
-    frame[4] = (uint8_t)sum;
+    frame_head(frame, content, n);
     memcpy(frame + HEADER, content, n);
     return HEADER + n;
 }
