@@ -37,6 +37,7 @@ pub struct Served {
     pub len: usize,
 }
 
+// Answered with a number and no reply.
 pub fn no_reply(plain: Plain, answer: u8) -> Served
     ensures { λ r. ⌜ r ≡ servedOf plain answer 0 ⌝ }
 {
@@ -159,6 +160,7 @@ pub fn after(p: Plain, t: Tables, changed: bool) -> Plain
     Plain { tables: t, lines }
 }
 
+// What a change of the tables comes to: the tables as it left them, the marks that follow, and its number.
 pub fn change(p: Plain, r: Changed) -> Served
     ensures { λ s. ⌜ s ≡ given (changedTo r p) ⌝ }
 {
@@ -214,6 +216,8 @@ pub fn close(p: Plain, c: u8) -> Served
     no_reply(p, 3)
 }
 
+// ---- replies
+
 // The header is put before a reply's content that stands from the sixth byte on; where there is none, nothing is done.
 pub fn seal(s: Served, reply: &mut [u8]) -> Served
     ensures { λ r. ⌜ (r ≡ sealedServed s (now (reply .entry))) × (now (reply .exit) ≡ sealedReply (s .len) (now (reply .entry))) ⌝ }
@@ -230,6 +234,7 @@ pub fn seal(s: Served, reply: &mut [u8]) -> Served
     }
 }
 
+// Served, with a reply whose content has len bytes.
 pub fn replied(plain: Plain, len: usize) -> Served
     ensures { λ r. ⌜ r ≡ servedOf plain 1 len ⌝ }
 {

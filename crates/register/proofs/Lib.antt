@@ -10,7 +10,4 @@ pub mod UniqueTables
 pub mod UniqueChanges
 pub mod UniquePlain
 pub mod UniqueBoard
-pub mod Starred
-pub mod Empty
 pub mod BoxContracts
-pub mod Lost

@@ -1,5 +1,2 @@
 pub mod Box
 pub mod Laws
-pub mod Starred
-pub mod Empty
-pub mod Lost

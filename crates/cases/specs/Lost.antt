@@ -4,8 +4,8 @@ use Prim.Native.Nat.{ℕ}
 use Rattle.board.specs.Held.{boardOf, halfAt, putHalf}
 use Rattle.board.specs.Rooms.{roomAt, putRoom}
 use Rattle.demand.specs.Demand.{waits, Call, bytes, other, Answer, answer, Machine, Trace}
 use Rattle.register.specs.Box.{connect, close, served, Held, held, boxCall}
-use Rattle.register.specs.Empty.{shown}
+use Rattle.cases.specs.Empty.{shown}
 
 -- the box with another call
 abbrev pub boxWith : (Held → Call served → Held × Answer served) → Machine served

@@ -4,8 +4,8 @@ use mathlib.Core.List.{List, []}
 use Prim.Native.Nat.{ℕ, _≤_}
 use Rattle.plain.specs.declared.Plain.{Plain}
 use Rattle.demand.specs.Demand.{Said, waits, refused, did, Call, Machine, final}
 use Rattle.register.specs.Box.{Reply, refusing, served}
-use Rattle.register.specs.Starred.{after}
+use Rattle.cases.specs.Starred.{after}
 
 -- the reply that an answer shows; where nothing ended it is number 0 without bytes
 abbrev pub shown : Said Reply → Reply

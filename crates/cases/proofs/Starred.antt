@@ -26,7 +26,7 @@ use Rattle.serving.specs.Obeying.{monitorSet, obeyed}
 use Rattle.serving.specs.Serving.{servedContent, servedMessage}
 use Rattle.board.specs.PowerUp.{poweredUp}
 use Rattle.board.specs.Calls.{levelCall, connectCall, collectCall, bytesCall, roomsAfter}
-use Rattle.register.specs.Starred.{Row, starredCases}
+use Rattle.cases.specs.Starred.{Row, starredCases}
 
 pub starred : map (λ (r : Row). r .does) starredCases ≡ map (λ (r : Row). r .owes) starredCases
 unfolding put rows eachAt anyBelow chunks fits numberAt stepOf firstOf afterOf roomOf runOf alarmState countAlarm usageAlarm onInput onRelay told levelOf masked blockOf idOf firstWith deviceOf inputWritten writeInput fitsExactly sizedRequest judgeRequest onChannel onBlock judgeCommand judgeRead judgeWrite requestOf commandOf readOf writeOf orderOf inputsOf relaysOf inputRow monitorReply inputBlock relayBlock readings.blockOf entryOf idsIn devicesReply deviceDone writtenFrom openedLine isOpen markedLine marked leveled connected monitorSent collected monitorSet obeyed servedContent servedMessage poweredUp levelCall connectCall collectCall bytesCall roomsAfter

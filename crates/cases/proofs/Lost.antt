@@ -16,10 +16,10 @@ use Rattle.serving.specs.Serving.{servedMessage}
 use Rattle.board.specs.PowerUp.{poweredUp}
 use Rattle.board.specs.Calls.{connectCall, closeCall, bytesCall, roomsAfter}
 use Rattle.demand.specs.Demand.{Call, Answer, trace, Demand3}
 use Rattle.register.specs.Box.{served, Held, atPowerUp, run}
-use Rattle.register.specs.Starred.{settings}
-use Rattle.register.specs.Lost.{boxWith, sharedCall, mutedCall, keepingCall, numbers, crossing, knocking, reopening}
+use Rattle.cases.specs.Starred.{settings}
+use Rattle.cases.specs.Lost.{boxWith, sharedCall, mutedCall, keepingCall, numbers, crossing, knocking, reopening}
 use Rattle.register.proofs.BoxDemand.{box-determined}
 
 abbrev rooms : List ℕ
 rooms = replicate 4096 0

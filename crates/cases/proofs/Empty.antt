@@ -36,11 +36,11 @@ use Rattle.demand.specs.Demand.{Call, bytes, other, Answer, Machine, final, tra
 use Rattle.demand.proofs.Following.{answers-now, answers-after, answers-all}
 use Rattle.demand.proofs.Empty.{Waiting, Frozen, Starving, Nodding, whole-served, not-idle, not-starving, not-frozen, not-nodding}
 use Rattle.demand.proofs.Taking.{rest-none}
 use Rattle.register.specs.Box.{connect, collect, Reply, replyOf, refusalOf, served, box, ends, run}
-use Rattle.register.specs.Starred.{settings, after, bits}
-use Rattle.register.specs.Empty.{shown, opened, RefusesAll, SameNumber, SameBytes}
+use Rattle.cases.specs.Starred.{settings, after, bits}
+use Rattle.cases.specs.Empty.{shown, opened, RefusesAll, SameNumber, SameBytes}
 use Rattle.register.proofs.BoxDemand.{blank-at, box-determined}
 use Rattle.register.proofs.BoxLawful.{Sound, box-meets}
 
 -- a toggle of relay 1, a whole message
 abbrev toggle : List ℕ
