@@ -40,17 +40,11 @@ static void trace_power(FILE *to, const wellacorn_settings *s)
 
 /* ---- The calls */
 
-static came keep(box *b, wellacorn_done done)
-{
-    b->board = done.board;
-    return (came){.answer = done.answer, .taken = done.taken, .len = done.len};
-}
-
 void box_power_up(box *b, const wellacorn_settings *settings, FILE *trace)
 {
     b->trace = trace;
     b->told = 0;
-    b->board = wellacorn_power_up(*settings);
+    wellacorn_box_power_up(&b->lent, *settings);
     if (b->trace != NULL) {
         trace_power(b->trace, settings);
     }
@@ -61,7 +55,7 @@ void box_time(box *b, uint64_t now)
     while (now > b->told) {
         uint64_t d = now - b->told;
         uint32_t part = d > UINT32_MAX ? UINT32_MAX : (uint32_t)d;
-        keep(b, wellacorn_pass(b->board, part));
+        wellacorn_box_pass(&b->lent, part);
         b->told += part;
         if (b->trace != NULL) {
             fprintf(b->trace, "pass %" PRIu32 "\n", part);
@@ -69,58 +63,68 @@ void box_time(box *b, uint64_t now)
     }
 }
 
-came box_level(box *b, uint8_t k, uint8_t v)
+wellacorn_done box_level(box *b, uint8_t k, uint8_t v)
 {
     if (b->trace != NULL) {
         fprintf(b->trace, "level %u %u\n", k, v);
     }
-    return keep(b, wellacorn_level(b->board, k, v));
+    return wellacorn_box_level(&b->lent, k, v);
 }
 
-came box_connect(box *b, uint8_t c, uint8_t rank)
+wellacorn_done box_connect(box *b, uint8_t c, uint8_t rank)
 {
     if (b->trace != NULL) {
         fprintf(b->trace, "open %u %u\n", c, rank);
     }
-    return keep(b, wellacorn_connect(b->board, c, rank));
+    return wellacorn_box_connect(&b->lent, c, rank);
 }
 
-came box_close(box *b, uint8_t c)
+wellacorn_done box_close(box *b, uint8_t c)
 {
     if (b->trace != NULL) {
         fprintf(b->trace, "close %u\n", c);
     }
-    return keep(b, wellacorn_close(b->board, c));
+    return wellacorn_box_close(&b->lent, c);
+}
+
+static unsigned closed_relays(const box *b)
+{
+    unsigned closed = 0;
+    for (int k = 0; k < WELLACORN_CHANNELS; k++) {
+        closed |= (unsigned)(b->lent.board.relays[k].closed != 0) << k;
+    }
+    return closed;
 }
 
 came box_bytes(box *b, uint8_t c, const uint8_t *piece, size_t n)
 {
-    came done = keep(b, wellacorn_bytes(b->board, b->rooms, c, piece, n, b->reply, sizeof b->reply));
+    uint64_t got = b->lent.halves[c].got;
+    unsigned closed = closed_relays(b);
+    wellacorn_done done = wellacorn_box_bytes(&b->lent, c, piece, n, b->reply, sizeof b->reply);
     if (b->trace != NULL) {
         fprintf(b->trace, "bytes %u %zu ", c, sizeof b->reply);
         trace_hex(b->trace, piece, done.taken);
     }
-    return done;
+    return (came){.done = done, .read = got + done.taken, .switched = closed ^ closed_relays(b)};
 }
 
-came box_collect(box *b, uint8_t c)
+wellacorn_done box_collect(box *b, uint8_t c)
 {
     if (b->trace != NULL) {
         fprintf(b->trace, "collect %u %zu\n", c, sizeof b->reply);
     }
-    return keep(b, wellacorn_collect(b->board, c, b->reply, sizeof b->reply));
+    return wellacorn_box_collect(&b->lent, c, b->reply, sizeof b->reply);
 }
 
 bool box_due(const box *b, uint8_t c)
 {
-    return b->board.plain.lines[c].due;
+    return b->lent.board.lines[c].due != 0;
 }
 
-size_t box_content(const box *b, const wellacorn_board *before, uint8_t c, came done, const uint8_t **content)
+size_t box_content(const box *b, uint8_t c, const came *it, const uint8_t **content)
 {
-    size_t whole = before->halves[c].got + done.taken;
-    *content = b->rooms + (size_t)WELLACORN_CONTENT * c;
-    return whole > HEADER && whole <= HEADER + WELLACORN_CONTENT ? whole - HEADER : 0;
+    *content = b->lent.rooms + (size_t)WELLACORN_CONTENT * c;
+    return it->read > HEADER && it->read <= HEADER + WELLACORN_CONTENT ? it->read - HEADER : 0;
 }
 
 /* ---- What the host itself says. */

@@ -17,6 +17,7 @@
 
 #include <errno.h>
 #include <fcntl.h>
+#include <inttypes.h>
 #include <netinet/in.h>
 #include <netinet/tcp.h>
 #include <poll.h>
@@ -98,13 +99,13 @@ static void open_line(host *h, uint8_t c, int fd, const char *peer)
 
 static void close_line(host *h, uint8_t c, const char *why)
 {
-    uint32_t half = h->box.board.halves[c].got;
+    uint64_t half = h->box.lent.halves[c].got;
     told_rest(&h->heard[c], c);
     box_close(&h->box, c);
     line_shut(&h->lines[c]);
     login_fresh(&h->logins[c]);
     if (half > 0) {
-        say("connection %u closed: %s; %u bytes of an unfinished message were dropped", c, why, (unsigned)half);
+        say("connection %u closed: %s; %" PRIu64 " bytes of an unfinished message were dropped", c, why, half);
     } else {
         say("connection %u closed: %s", c, why);
     }
@@ -113,10 +114,10 @@ static void close_line(host *h, uint8_t c, const char *why)
 /* ---- Logins */
 
 /* A message that the library does not offer may be a login, which is the host's. Whether it was. */
-static bool begins_login(host *h, uint8_t c, const wellacorn_board *before, came done)
+static bool begins_login(host *h, uint8_t c, const came *it)
 {
     const uint8_t *content;
-    size_t n = done.answer == WELLACORN_NOT_OFFERED ? box_content(&h->box, before, c, done, &content) : 0;
+    size_t n = it->done.answer == WELLACORN_NOT_OFFERED ? box_content(&h->box, c, it, &content) : 0;
     if (n == 0 || content[0] != LOGIN_TYPE) {
         return false;
     }
@@ -174,12 +175,11 @@ static void serve(host *h, uint8_t c)
     const uint8_t *piece;
     for (int i = 0; i < TURN && can_serve(h, c); i++) {
         size_t n = line_untaken(l, &piece);
-        wellacorn_board before = h->box.board;
-        came done = box_bytes(&h->box, c, piece, n);
-        line_took(l, done.taken);
-        line_queue(l, h->box.reply, done.len);
-        if (!begins_login(h, c, &before, done)) {
-            told_bytes(&h->heard[c], &h->box, &before, c, done);
+        came it = box_bytes(&h->box, c, piece, n);
+        line_took(l, it.done.taken);
+        line_queue(l, h->box.reply, it.done.len);
+        if (!begins_login(h, c, &it)) {
+            told_bytes(&h->heard[c], &h->box, c, &it);
         }
     }
     if (line_untaken(l, &piece) == 0) {
@@ -195,7 +195,7 @@ static bool can_collect(const host *h, uint8_t c)
 static void collect(host *h, uint8_t c)
 {
     if (can_collect(h, c)) {
-        came done = box_collect(&h->box, c);
+        wellacorn_done done = box_collect(&h->box, c);
         line_queue(&h->lines[c], h->box.reply, done.len);
     }
 }

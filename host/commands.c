@@ -35,14 +35,15 @@ static uint8_t byte(const char *word)
 static void level(box *b, const char *input, const char *value)
 {
     uint8_t k = byte(input), v = byte(value);
-    bool was = k >= 1 && k <= WELLACORN_CHANNELS && b->board.plain.tables.inputs[k - 1].level;
-    came done = box_level(b, k, v);
+    const wellacorn_input *inputs = b->lent.board.inputs;
+    bool was = k >= 1 && k <= WELLACORN_CHANNELS && inputs[k - 1].level;
+    wellacorn_done done = box_level(b, k, v);
     if (done.answer != WELLACORN_SERVED) {
         say("level refused (%u): write `level K V` with K from 1 to 8 and V 1 (on) or 0 (off)", done.answer);
     } else if (was == (v == 1)) {
         say("input %u was %s already: nothing changed", k, v == 1 ? "on" : "off");
     } else {
-        say("input %u is %s: %" PRIu32 " counted", k, v == 1 ? "on" : "off", b->board.plain.tables.inputs[k - 1].count);
+        say("input %u is %s: %" PRIu64 " counted", k, v == 1 ? "on" : "off", inputs[k - 1].count);
     }
 }
 

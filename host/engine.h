@@ -1,10 +1,7 @@
 /* One way to call a box, over the library or, under ENGINE_PEER, over the plain C peer. What uses it is compiled for one of the two.
  *
  * An engine holds the box, and what the last call came to in `answer`, `taken` and `len`. `taken` and `len` are those of the last
- * ENGINE_BYTES or ENGINE_COLLECT; read them after no other call.
- *
- * The calls are macros on a variable, not functions on a pointer: where the engine is a local variable whose address is taken nowhere, the
- * compiler lets the library write its answer straight into it. Through a pointer each call would copy the board once more.
+ * engine_bytes or engine_collect; read them after no other call.
  */
 #ifndef ENGINE_H
 #define ENGINE_H
@@ -22,45 +19,134 @@ typedef struct {
     size_t len;
 } engine;
 
-/* The peer has rooms of its own. */
-#define ENGINE_POWER_UP(e, settings) peer_power_up(&(e).box, &(settings))
-#define ENGINE_LEVEL(e, k, v) ((e).answer = peer_level(&(e).box, (k), (v)))
-#define ENGINE_PASS(e, d) ((e).answer = peer_pass(&(e).box, (d)))
-#define ENGINE_CONNECT(e, c, rank) ((e).answer = peer_connect(&(e).box, (c), (rank)))
-#define ENGINE_CLOSE(e, c) ((e).answer = peer_close(&(e).box, (c)))
-#define ENGINE_BYTES(e, rooms, c, piece, piece_len, reply, reply_len) \
-    ((void)(rooms), (e).answer = peer_bytes(&(e).box, (c), (piece), (piece_len), (reply), (reply_len), &(e).taken, &(e).len))
-#define ENGINE_COLLECT(e, c, reply, reply_len) \
-    ((e).answer = peer_collect(&(e).box, (c), (reply), (reply_len), &(e).taken, &(e).len))
+static inline void engine_power_up(engine *e, const wellacorn_settings *s)
+{
+    peer_power_up(&e->box, s);
+}
 
-/* All that the box holds, as the library has it. */
+static inline void engine_level(engine *e, uint8_t k, uint8_t v)
+{
+    e->answer = peer_level(&e->box, k, v);
+}
+
+static inline void engine_pass(engine *e, uint32_t d)
+{
+    e->answer = peer_pass(&e->box, d);
+}
+
+static inline void engine_connect(engine *e, uint8_t c, uint8_t rank)
+{
+    e->answer = peer_connect(&e->box, c, rank);
+}
+
+static inline void engine_close(engine *e, uint8_t c)
+{
+    e->answer = peer_close(&e->box, c);
+}
+
+static inline void engine_bytes(engine *e, uint8_t c, const uint8_t *piece, size_t piece_len, uint8_t *reply, size_t reply_len)
+{
+    e->answer = peer_bytes(&e->box, c, piece, piece_len, reply, reply_len, &e->taken, &e->len);
+}
+
+static inline void engine_collect(engine *e, uint8_t c, uint8_t *reply, size_t reply_len)
+{
+    e->answer = peer_collect(&e->box, c, reply, reply_len, &e->taken, &e->len);
+}
+
+/* What the box holds, as the library has it: the words it does not use are 0. */
 static inline wellacorn_board engine_board(const engine *e)
 {
-    wellacorn_board b;
-    b.plain.tables = e->box.tables;
+    const peer_tables *t = &e->box.tables;
+    wellacorn_board b = {.clock = {.time = t->clock}};
+    for (int k = 0; k < WELLACORN_CHANNELS; k++) {
+        const peer_input *in = &t->inputs[k];
+        b.inputs[k] = (wellacorn_input){
+            .level = in->level,
+            .alarm = in->alarm,
+            .count = in->count,
+            .setpoint_one = in->setpoint_one,
+            .setpoint_two = in->setpoint_two,
+            .usage = in->usage,
+            .usage_setpoint = in->usage_setpoint,
+        };
+        const peer_relay *relay = &t->relays[k];
+        b.relays[k] = (wellacorn_relay){.closed = relay->closed, .usage = relay->usage, .usage_setpoint = relay->usage_setpoint};
+    }
     for (int c = 0; c < WELLACORN_CONNECTIONS; c++) {
-        b.plain.lines[c] = e->box.connections[c].line;
-        b.halves[c] = e->box.connections[c].half;
+        const peer_line *line = &e->box.connections[c].line;
+        b.lines[c] = (wellacorn_line){.is_open = line->is_open, .rank = line->rank, .monitor = line->monitor, .due = line->due};
     }
     return b;
 }
 
+/* How far a message of connection c has been read. A shut connection has read nothing. */
+static inline wellacorn_half engine_half(const engine *e, int c)
+{
+    const peer_half *half = &e->box.connections[c].half;
+    return (wellacorn_half){.got = half->got, .len = half->len, .sum = half->sum};
+}
+
 #else
 
-typedef wellacorn_done engine;
+typedef struct {
+    wellacorn_box box;
+    uint8_t answer;
+    size_t taken;
+    size_t len;
+} engine;
 
-#define ENGINE_POWER_UP(e, settings) ((e).board = wellacorn_power_up(settings))
-#define ENGINE_LEVEL(e, k, v) ((e) = wellacorn_level((e).board, (k), (v)))
-#define ENGINE_PASS(e, d) ((e) = wellacorn_pass((e).board, (d)))
-#define ENGINE_CONNECT(e, c, rank) ((e) = wellacorn_connect((e).board, (c), (rank)))
-#define ENGINE_CLOSE(e, c) ((e) = wellacorn_close((e).board, (c)))
-#define ENGINE_BYTES(e, rooms, c, piece, piece_len, reply, reply_len) \
-    ((e) = wellacorn_bytes((e).board, (rooms), (c), (piece), (piece_len), (reply), (reply_len)))
-#define ENGINE_COLLECT(e, c, reply, reply_len) ((e) = wellacorn_collect((e).board, (c), (reply), (reply_len)))
+static inline void engine_power_up(engine *e, const wellacorn_settings *s)
+{
+    wellacorn_box_power_up(&e->box, *s);
+}
+
+static inline void engine_level(engine *e, uint8_t k, uint8_t v)
+{
+    e->answer = wellacorn_box_level(&e->box, k, v).answer;
+}
+
+static inline void engine_pass(engine *e, uint32_t d)
+{
+    e->answer = wellacorn_box_pass(&e->box, d).answer;
+}
+
+static inline void engine_connect(engine *e, uint8_t c, uint8_t rank)
+{
+    e->answer = wellacorn_box_connect(&e->box, c, rank).answer;
+}
+
+static inline void engine_close(engine *e, uint8_t c)
+{
+    e->answer = wellacorn_box_close(&e->box, c).answer;
+}
+
+static inline void engine_came_to(engine *e, wellacorn_done d)
+{
+    e->answer = d.answer;
+    e->taken = d.taken;
+    e->len = d.len;
+}
+
+static inline void engine_bytes(engine *e, uint8_t c, const uint8_t *piece, size_t piece_len, uint8_t *reply, size_t reply_len)
+{
+    engine_came_to(e, wellacorn_box_bytes(&e->box, c, piece, piece_len, reply, reply_len));
+}
+
+static inline void engine_collect(engine *e, uint8_t c, uint8_t *reply, size_t reply_len)
+{
+    engine_came_to(e, wellacorn_box_collect(&e->box, c, reply, reply_len));
+}
 
 static inline wellacorn_board engine_board(const engine *e)
 {
-    return e->board;
+    return e->box.board;
+}
+
+static inline wellacorn_half engine_half(const engine *e, int c)
+{
+    static const wellacorn_half nothing_read;
+    return e->box.board.lines[c].is_open ? e->box.halves[c] : nothing_read;
 }
 
 #endif

@@ -40,11 +40,12 @@ uint64_t morning_next(const morning *m)
 
 static void change(morning *m, box *b, int k, uint64_t now)
 {
-    bool on = !b->board.plain.tables.inputs[k].level;
+    const wellacorn_input *input = &b->lent.board.inputs[k];
+    bool on = !input->level;
     box_level(b, (uint8_t)(k + 1), on);
     m->next[k] = now + (on ? PULSE + draw(m, PULSE) : QUIET + draw(m, QUIET_MORE));
     if (on) {
-        say("fish on lift %d: %" PRIu32 " counted", k + 1, b->board.plain.tables.inputs[k].count);
+        say("fish on lift %d: %" PRIu64 " counted", k + 1, input->count);
     }
 }
 

@@ -133,13 +133,13 @@ static size_t seal(uint8_t *reply, size_t n)
 static void mark_due(peer_box *box)
 {
     for (int c = 0; c < WELLACORN_CONNECTIONS; c++) {
-        wellacorn_line *line = &box->connections[c].line;
+        peer_line *line = &box->connections[c].line;
         line->due |= line->is_open & (line->rank != 0) & line->monitor;
     }
 }
 
 /* Says whether the state really changed. */
-static bool put_relay(wellacorn_relay *relay, bool closed)
+static bool put_relay(peer_relay *relay, bool closed)
 {
     bool changed = relay->closed != closed;
     relay->closed = closed;
@@ -152,7 +152,7 @@ static uint64_t grown(uint64_t ms, uint32_t d)
     return sum < ms ? UINT64_MAX : sum;
 }
 
-static uint8_t alarm_state(const wellacorn_input *in)
+static uint8_t alarm_state(const peer_input *in)
 {
     return in->alarm & in->level;
 }
@@ -196,7 +196,7 @@ static int device_of(uint64_t id)
 /* ---- Replies: each writes its content and gives the place behind it */
 
 /* What the Monitor message and the read block say alike of an input. */
-static uint8_t *put_input(uint8_t *p, const wellacorn_input *in)
+static uint8_t *put_input(uint8_t *p, const peer_input *in)
 {
     p = put8(p, in->level);
     p = put8(p, alarm_state(in));
@@ -205,7 +205,7 @@ static uint8_t *put_input(uint8_t *p, const wellacorn_input *in)
     return put8(p, count_alarm(in->count, in->setpoint_two));
 }
 
-static uint8_t *put_monitor(uint8_t *p, const wellacorn_tables *tables)
+static uint8_t *put_monitor(uint8_t *p, const peer_tables *tables)
 {
     static const uint8_t version[] = "\x0Fjr310 3.10.0001";
 
@@ -221,13 +221,13 @@ static uint8_t *put_monitor(uint8_t *p, const wellacorn_tables *tables)
     return put64(p, tables->clock);
 }
 
-static uint8_t *put_clock(uint8_t *p, const wellacorn_tables *tables)
+static uint8_t *put_clock(uint8_t *p, const peer_tables *tables)
 {
     p = put8(p, CLOCK);
     return put64(p, tables->clock);
 }
 
-static uint8_t *put_usages(uint8_t *p, const wellacorn_tables *tables)
+static uint8_t *put_usages(uint8_t *p, const peer_tables *tables)
 {
     p = put8(p, USAGES);
     for (int k = 0; k < WELLACORN_CHANNELS; k++) {
@@ -240,7 +240,7 @@ static uint8_t *put_usages(uint8_t *p, const wellacorn_tables *tables)
 }
 
 /* ID, block length, block. "An unknown ID has length 0." */
-static uint8_t *put_device(uint8_t *p, const wellacorn_tables *tables, uint64_t id)
+static uint8_t *put_device(uint8_t *p, const peer_tables *tables, uint64_t id)
 {
     int device = device_of(id);
 
@@ -249,13 +249,13 @@ static uint8_t *put_device(uint8_t *p, const wellacorn_tables *tables, uint64_t 
         return put16(p, 0);
     }
     if (device < WELLACORN_CHANNELS) {
-        const wellacorn_input *in = &tables->inputs[device];
+        const peer_input *in = &tables->inputs[device];
         p = put16(p, 17);
         p = put_input(p, in);
         p = put64(p, in->usage);
         return put8(p, usage_alarm(in->usage, in->usage_setpoint));
     }
-    const wellacorn_relay *relay = &tables->relays[device - WELLACORN_CHANNELS];
+    const peer_relay *relay = &tables->relays[device - WELLACORN_CHANNELS];
     p = put16(p, 10);
     p = put8(p, relay->closed);
     p = put64(p, relay->usage);
@@ -264,7 +264,7 @@ static uint8_t *put_device(uint8_t *p, const wellacorn_tables *tables, uint64_t 
 
 /* ---- Messages. Each is given its content of n bytes and writes a reply's content to *end on, which it moves behind it. */
 
-static uint8_t request(peer_box *box, wellacorn_line *line, const uint8_t *content, size_t n, uint8_t **end)
+static uint8_t request(peer_box *box, peer_line *line, const uint8_t *content, size_t n, uint8_t **end)
 {
     if (n < 3) {
         return WELLACORN_BAD_LENGTH;
@@ -308,7 +308,7 @@ static uint8_t set_clock(peer_box *box, const uint8_t *content, size_t n)
 }
 
 /* "Only masked relays take the state." */
-static bool change_block(wellacorn_relay *relays, unsigned mask, unsigned state)
+static bool change_block(peer_relay *relays, unsigned mask, unsigned state)
 {
     bool changed = false;
     for (int k = 0; k < WELLACORN_CHANNELS; k++) {
@@ -341,8 +341,8 @@ static uint8_t command(peer_box *box, const uint8_t *content, size_t n)
         if (channel < 1 || channel > WELLACORN_CHANNELS) {
             return WELLACORN_OUT_OF_RANGE;
         }
-        wellacorn_input *in = &box->tables.inputs[channel - 1];
-        wellacorn_relay *relay = &box->tables.relays[channel - 1];
+        peer_input *in = &box->tables.inputs[channel - 1];
+        peer_relay *relay = &box->tables.relays[channel - 1];
         switch (action) {
         case CLOSE:
             changed = put_relay(relay, true);
@@ -385,7 +385,7 @@ static uint8_t read_devices(const peer_box *box, const uint8_t *content, size_t 
 }
 
 /* "With 1 and 2 together the written count stands." Says whether the entry was written. */
-static bool write_input(wellacorn_input *in, const uint8_t *block, size_t length)
+static bool write_input(peer_input *in, const uint8_t *block, size_t length)
 {
     enum { RESET_COUNT = 1, WRITE_COUNT = 2, RESET_USAGE = 4, ALL = 7 };
 
@@ -408,7 +408,7 @@ static bool write_input(wellacorn_input *in, const uint8_t *block, size_t length
     return true;
 }
 
-static bool write_relay(wellacorn_relay *relay, const uint8_t *block, size_t length, bool *changed)
+static bool write_relay(peer_relay *relay, const uint8_t *block, size_t length, bool *changed)
 {
     enum { STATE = 1, RESET_USAGE = 2, ALL = 3 };
 
@@ -506,7 +506,7 @@ static uint8_t enumerate_devices(const uint8_t *content, size_t n, uint8_t **end
 }
 
 /* A whole message: type, then rank, then its own rules. */
-static uint8_t serve(peer_box *box, wellacorn_line *line, const uint8_t *content, size_t n, uint8_t **end)
+static uint8_t serve(peer_box *box, peer_line *line, const uint8_t *content, size_t n, uint8_t **end)
 {
     unsigned type = n == 0 ? 0 : content[0];
     unsigned needed = 1;
@@ -544,7 +544,7 @@ static uint8_t serve(peer_box *box, wellacorn_line *line, const uint8_t *content
 }
 
 /* A message that has ended. Its content is not there if it is too long. */
-static uint8_t judge(peer_box *box, wellacorn_line *line, const uint8_t *content, size_t n, unsigned sum, uint8_t *reply, size_t *len)
+static uint8_t judge(peer_box *box, peer_line *line, const uint8_t *content, size_t n, unsigned sum, uint8_t *reply, size_t *len)
 {
     if (n > WELLACORN_CONTENT) {
         return WELLACORN_TOO_LONG;
@@ -567,7 +567,7 @@ void peer_power_up(peer_box *box, const wellacorn_settings *settings)
 {
     memset(box, 0, sizeof *box);
     for (int k = 0; k < WELLACORN_CHANNELS; k++) {
-        wellacorn_input *in = &box->tables.inputs[k];
+        peer_input *in = &box->tables.inputs[k];
         in->setpoint_one = settings->inputs[k].setpoint_one;
         in->setpoint_two = settings->inputs[k].setpoint_two;
         in->usage_setpoint = settings->inputs[k].usage_setpoint;
@@ -581,7 +581,7 @@ uint8_t peer_level(peer_box *box, uint8_t k, uint8_t v)
     if (k < 1 || k > WELLACORN_CHANNELS || v > 1) {
         return WELLACORN_OUT_OF_RANGE;
     }
-    wellacorn_input *in = &box->tables.inputs[k - 1];
+    peer_input *in = &box->tables.inputs[k - 1];
     if (in->level != v) {
         in->level = v;
         if (v && in->count < UINT32_MAX) {
@@ -594,7 +594,7 @@ uint8_t peer_level(peer_box *box, uint8_t k, uint8_t v)
 
 uint8_t peer_pass(peer_box *box, uint32_t d)
 {
-    wellacorn_tables *tables = &box->tables;
+    peer_tables *tables = &box->tables;
     tables->clock = grown(tables->clock, d);
     for (int k = 0; k < WELLACORN_CHANNELS; k++) {
         if (tables->inputs[k].level) {
@@ -607,7 +607,7 @@ uint8_t peer_pass(peer_box *box, uint32_t d)
     return WELLACORN_SERVED;
 }
 
-static const wellacorn_half nothing_read;
+static const peer_half nothing_read;
 
 uint8_t peer_connect(peer_box *box, uint8_t c, uint8_t rank)
 {
@@ -621,7 +621,7 @@ uint8_t peer_connect(peer_box *box, uint8_t c, uint8_t rank)
     if (rank > 2) {
         return WELLACORN_BAD_RANK;
     }
-    opened->line = (wellacorn_line){.is_open = true, .rank = rank, .monitor = true, .due = rank > 0};
+    opened->line = (peer_line){.is_open = true, .rank = rank, .monitor = true, .due = rank > 0};
     opened->half = nothing_read;
     return WELLACORN_SERVED;
 }
@@ -636,7 +636,7 @@ uint8_t peer_close(peer_box *box, uint8_t c)
     if (!is_open(box, c)) {
         return WELLACORN_NO_CONNECTION;
     }
-    box->connections[c].line = (wellacorn_line){.is_open = false};
+    box->connections[c].line = (peer_line){.is_open = false};
     box->connections[c].half = nothing_read;
     return WELLACORN_SERVED;
 }
@@ -651,7 +651,7 @@ uint8_t peer_collect(peer_box *box, uint8_t c, uint8_t *reply, size_t reply_len,
     if (reply_len < WELLACORN_REPLY) {
         return WELLACORN_SHORT_BUFFER;
     }
-    wellacorn_line *line = &box->connections[c].line;
+    peer_line *line = &box->connections[c].line;
     if (!line->due) {
         return WELLACORN_WAITING;
     }
@@ -661,7 +661,7 @@ uint8_t peer_collect(peer_box *box, uint8_t c, uint8_t *reply, size_t reply_len,
     return WELLACORN_SERVED;
 }
 
-static void read_header(wellacorn_half *half, uint8_t byte)
+static void read_header(peer_half *half, uint8_t byte)
 {
     switch (half->got++) {
     case 0:
@@ -696,7 +696,7 @@ uint8_t peer_bytes(peer_box *box, uint8_t c, const uint8_t *piece, size_t piece_
         return WELLACORN_WAITING;
     }
     peer_connection *from = &box->connections[c];
-    wellacorn_half *half = &from->half;
+    peer_half *half = &from->half;
 
     if (half->got == 0) {
         if (piece[0] != START) {
@@ -729,7 +729,7 @@ uint8_t peer_bytes(peer_box *box, uint8_t c, const uint8_t *piece, size_t piece_
     if (here < missing) {
         return WELLACORN_WAITING;
     }
-    wellacorn_half ended = *half;
+    peer_half ended = *half;
     *half = nothing_read;
     return judge(box, &from->line, from->room, ended.len, ended.sum, reply, len);
 }

@@ -210,7 +210,6 @@ static bool read_piece(word w)
 /* ---- The box, and the lines it obeys. Each says whether it was a good line; a bad one does and prints nothing. */
 
 static engine box;
-static uint8_t rooms[WELLACORN_ROOMS];
 static uint8_t reply[CAP + GUARD];
 
 static const wellacorn_settings all_zero;
@@ -235,7 +234,7 @@ static bool power(const word *words, size_t n)
             }
         }
     }
-    ENGINE_POWER_UP(box, s);
+    engine_power_up(&box, &s);
     print_char('1');
     return true;
 }
@@ -246,7 +245,7 @@ static bool connect_line(const word *words, size_t n)
     if (n != 2 || !byte(words[0], &c) || !byte(words[1], &rank)) {
         return false;
     }
-    ENGINE_CONNECT(box, c, rank);
+    engine_connect(&box, c, rank);
     print_number(box.answer);
     return true;
 }
@@ -257,7 +256,7 @@ static bool close_line(const word *words, size_t n)
     if (n != 1 || !byte(words[0], &c)) {
         return false;
     }
-    ENGINE_CLOSE(box, c);
+    engine_close(&box, c);
     print_number(box.answer);
     return true;
 }
@@ -268,7 +267,7 @@ static bool level(const word *words, size_t n)
     if (n != 2 || !byte(words[0], &k) || !byte(words[1], &v)) {
         return false;
     }
-    ENGINE_LEVEL(box, k, v);
+    engine_level(&box, k, v);
     print_number(box.answer);
     return true;
 }
@@ -279,7 +278,7 @@ static bool pass(const word *words, size_t n)
     if (n != 1 || !four_bytes(words[0], &d)) {
         return false;
     }
-    ENGINE_PASS(box, d);
+    engine_pass(&box, d);
     print_number(box.answer);
     return true;
 }
@@ -315,7 +314,7 @@ static bool collect(const word *words, size_t n)
         return false;
     }
     fill_reply(cap);
-    ENGINE_COLLECT(box, c, reply, cap);
+    engine_collect(&box, c, reply, cap);
     print_number(box.answer);
     print_reply(cap);
     return true;
@@ -329,7 +328,7 @@ static bool bytes(const word *words, size_t n)
         return false;
     }
     fill_reply(cap);
-    ENGINE_BYTES(box, rooms, c, piece, piece_len, reply, cap);
+    engine_bytes(&box, c, piece, piece_len, reply, cap);
     print_number(box.answer);
     print_char(' ');
     print_number(box.taken);
@@ -354,21 +353,21 @@ static bool state(const word *words, size_t n)
     }
     wellacorn_board b = engine_board(&box);
     print_text("C ");
-    print_number(b.plain.tables.clock);
+    print_number(b.clock.time);
     print_text(" I");
     for (int k = 0; k < WELLACORN_CHANNELS; k++) {
-        const wellacorn_input *in = &b.plain.tables.inputs[k];
+        const wellacorn_input *in = &b.inputs[k];
         print_numbers((const uint64_t[]){in->level, in->count, in->usage}, 3);
     }
     print_text(" R");
     for (int k = 0; k < WELLACORN_CHANNELS; k++) {
-        const wellacorn_relay *relay = &b.plain.tables.relays[k];
+        const wellacorn_relay *relay = &b.relays[k];
         print_numbers((const uint64_t[]){relay->closed, relay->usage}, 2);
     }
     print_text(" N");
     for (int c = 0; c < WELLACORN_CONNECTIONS; c++) {
-        const wellacorn_line *line = &b.plain.lines[c];
-        print_numbers((const uint64_t[]){line->is_open, line->rank, line->monitor, line->due, b.halves[c].got}, 5);
+        const wellacorn_line *line = &b.lines[c];
+        print_numbers((const uint64_t[]){line->is_open, line->rank, line->monitor, line->due, engine_half(&box, c).got}, 5);
     }
     return true;
 }
@@ -428,7 +427,7 @@ int main(void)
     size_t held = 0;            /* bytes in the buffer: the beginning of a line */
     bool dropped = false;       /* an earlier part of this line was dropped */
 
-    ENGINE_POWER_UP(box, all_zero);
+    engine_power_up(&box, &all_zero);
     for (size_t n; (n = read_more(held)) > 0;) {
         size_t from = 0, scan = held;
         held += n;

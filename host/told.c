@@ -129,12 +129,11 @@ static void add_served(words *w, const box *b, const uint8_t *content)
 }
 
 /* Which relays really changed. */
-static void add_changes(words *w, const wellacorn_board *before, const wellacorn_board *after)
+static void add_switched(words *w, const box *b, unsigned switched)
 {
     for (int k = 0; k < WELLACORN_CHANNELS; k++) {
-        bool closed = after->plain.tables.relays[k].closed;
-        if (closed != before->plain.tables.relays[k].closed) {
-            add(w, "; relay %d is %s now", k + 1, closed ? "closed" : "open");
+        if (switched >> k & 1) {
+            add(w, "; relay %d is %s now", k + 1, b->lent.board.relays[k].closed ? "closed" : "open");
         }
     }
 }
@@ -168,32 +167,33 @@ static void add_refused(words *w, const uint8_t *content, size_t n, uint8_t answ
 
 /* ---- A call */
 
-static void told_message(const box *b, const wellacorn_board *before, uint8_t c, came done)
+static void told_message(const box *b, uint8_t c, const came *it)
 {
     words w = {.n = 0};
     const uint8_t *content;
-    size_t n = box_content(b, before, c, done, &content);
-    if (done.answer == WELLACORN_SERVED) {
+    size_t n = box_content(b, c, it, &content);
+    if (it->done.answer == WELLACORN_SERVED) {
         add_served(&w, b, content);
-        add_changes(&w, before, &b->board);
-    } else if (done.answer == WELLACORN_TOO_LONG) {
-        add(&w, "sent a message of %zu bytes, swallowed (6): the longest is 1,024", before->halves[c].got + done.taken - 5);
+        add_switched(&w, b, it->switched);
+    } else if (it->done.answer == WELLACORN_TOO_LONG) {
+        add(&w, "sent a message of %zu bytes, swallowed (6): the longest is 1,024", it->read - 5);
     } else {
-        add_refused(&w, content, n, done.answer);
+        add_refused(&w, content, n, it->done.answer);
     }
     say("connection %u %s", c, w.text);
 }
 
-void told_bytes(heard *h, const box *b, const wellacorn_board *before, uint8_t c, came done)
+void told_bytes(heard *h, const box *b, uint8_t c, const came *it)
 {
-    if (done.answer == WELLACORN_WAITING) {
+    uint8_t answer = it->done.answer;
+    if (answer == WELLACORN_WAITING) {
         return;
     }
-    h->strays += done.answer == WELLACORN_STRAY;
-    h->keep_alives += done.answer == WELLACORN_KEEP_ALIVE;
-    if (done.answer != WELLACORN_STRAY && done.answer != WELLACORN_KEEP_ALIVE) {
+    h->strays += answer == WELLACORN_STRAY;
+    h->keep_alives += answer == WELLACORN_KEEP_ALIVE;
+    if (answer != WELLACORN_STRAY && answer != WELLACORN_KEEP_ALIVE) {
         told_rest(h, c);
-        told_message(b, before, c, done);
+        told_message(b, c, it);
     }
 }
 
@@ -208,7 +208,7 @@ void told_rest(heard *h, uint8_t c)
     h->strays = h->keep_alives = 0;
 }
 
-const char *told_rank(uint8_t rank)
+const char *told_rank(uint64_t rank)
 {
     return rank == 2 ? "administrator" : rank == 1 ? "user" : "not logged in";
 }
@@ -222,7 +222,7 @@ static const char *alarm_word(bool on, const char *word)
 
 static void told_input(int k, const wellacorn_input *in)
 {
-    say("state: input %d %s, count %" PRIu32 ", usage %" PRIu64 " ms%s%s%s%s", k, in->level ? "on" : "off", in->count, in->usage,
+    say("state: input %d %s, count %" PRIu64 ", usage %" PRIu64 " ms%s%s%s%s", k, in->level ? "on" : "off", in->count, in->usage,
         alarm_word(in->alarm && in->level, ", alarm"), alarm_word(in->setpoint_one > 0 && in->count > in->setpoint_one, ", count alarm 1"),
         alarm_word(in->setpoint_two > 0 && in->count > in->setpoint_two, ", count alarm 2"),
         alarm_word(in->usage_setpoint > 0 && in->usage >= in->usage_setpoint, ", usage alarm"));
@@ -230,25 +230,25 @@ static void told_input(int k, const wellacorn_input *in)
 
 void told_state(const box *b, const char *const peers[WELLACORN_CONNECTIONS])
 {
-    const wellacorn_tables *t = &b->board.plain.tables;
+    const wellacorn_board *board = &b->lent.board;
     words clock = {.n = 0};
-    add_clock(&clock, t->clock);
-    say("state: clock %" PRIu64 " ms, %s", t->clock, clock.text);
+    add_clock(&clock, board->clock.time);
+    say("state: clock %" PRIu64 " ms, %s", board->clock.time, clock.text);
     for (int k = 0; k < WELLACORN_CHANNELS; k++) {
-        told_input(k + 1, &t->inputs[k]);
+        told_input(k + 1, &board->inputs[k]);
     }
     for (int k = 0; k < WELLACORN_CHANNELS; k++) {
-        const wellacorn_relay *r = &t->relays[k];
+        const wellacorn_relay *r = &board->relays[k];
         say("state: relay %d %s, usage %" PRIu64 " ms%s", k + 1, r->closed ? "closed" : "open", r->usage,
             alarm_word(r->usage_setpoint > 0 && r->usage >= r->usage_setpoint, ", usage alarm"));
     }
     for (int c = 0; c < WELLACORN_CONNECTIONS; c++) {
-        const wellacorn_line *l = &b->board.plain.lines[c];
+        const wellacorn_line *l = &board->lines[c];
         if (peers[c] == NULL) {
             say("state: connection %d is free", c);
         } else {
-            say("state: connection %d is %s, %s, Monitor %s, %" PRIu32 " bytes of a message read", c, peers[c], told_rank(l->rank),
-                l->monitor ? "on" : "off", b->board.halves[c].got);
+            say("state: connection %d is %s, %s, Monitor %s, %" PRIu64 " bytes of a message read", c, peers[c], told_rank(l->rank),
+                l->monitor ? "on" : "off", b->lent.halves[c].got);
         }
     }
 }

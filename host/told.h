@@ -10,14 +10,14 @@ typedef struct {
     unsigned long keep_alives;
 } heard;
 
-/* A call of box_bytes on connection c has come to `done`; `before` is the board before it. */
-void told_bytes(heard *h, const box *b, const wellacorn_board *before, uint8_t c, came done);
+/* A call of box_bytes on connection c has come to it. */
+void told_bytes(heard *h, const box *b, uint8_t c, const came *it);
 
 /* Tells what is left to tell. */
 void told_rest(heard *h, uint8_t c);
 
 /* A rank in words. */
-const char *told_rank(uint8_t rank);
+const char *told_rank(uint64_t rank);
 
 /* Prints all that the box holds, a few lines. */
 void told_state(const box *b, const char *const peers[WELLACORN_CONNECTIONS]);

@@ -1,19 +1,21 @@
 /* The box's side of the JNIOR binary protocol, as a C or C++ host calls it.
  *
  * The functions stand in the static archive libcapi.a, for x86-64 Linux. Each takes every input, ends, keeps no memory of its own and
- * calls nothing back: all that the box holds is in the board, by value, and in the rooms that the host lends.
+ * calls nothing back: all that the box holds is in what the host lends, and a call changes it in place.
  *
- *     uint8_t rooms[WELLACORN_ROOMS], reply[WELLACORN_REPLY];
- *     wellacorn_done done = wellacorn_connect(wellacorn_power_up(settings), 0, 2);
- *     done = wellacorn_bytes(done.board, rooms, 0, piece, piece_len, reply, sizeof reply);
+ *     static wellacorn_box box;
+ *     static uint8_t reply[WELLACORN_REPLY];
+ *     wellacorn_box_power_up(&box, settings);
+ *     wellacorn_box_connect(&box, 0, 2);
+ *     wellacorn_done done = wellacorn_box_bytes(&box, 0, piece, piece_len, reply, sizeof reply);
  *     // send done.len bytes of reply; offer the bytes from piece + done.taken on again, before any later ones
  *
  * What the host owes:
- *   - One board is threaded through all calls: each call is given the board that the call before gave back.
- *   - The rooms are the same 4,096 bytes in every call, unaltered between calls. They need not be cleared.
+ *   - The same box (board, halves and rooms) goes into every call, one call at a time, and nobody else alters it between calls. It is
+ *     powered up first: that writes the whole board. Halves and rooms need not be cleared.
  *   - Bytes that a call has not taken are the host's to offer again, before any later ones of that connection: the box does not hold them.
- *   - No pointer is null, not even where the length beside it is 0. Rooms, piece and reply do not overlap.
- *   - A bool is 0 or 1.
+ *   - No pointer is null, not even where the length beside it is 0. Board, halves, rooms, piece and reply do not overlap.
+ *   - A bool of the settings is 0 or 1.
  */
 #ifndef WELLACORN_H
 #define WELLACORN_H
@@ -32,6 +34,7 @@ extern "C" {
 enum {
     WELLACORN_CHANNELS = 8,         /* inputs 1 to 8 and relays 1 to 8; channel k stands at place k - 1 */
     WELLACORN_CONNECTIONS = 4,      /* connections 0 to 3 */
+    WELLACORN_ROWS = 21,            /* rows of the board, of eight words each: eight inputs, eight relays, the clock, four connections */
     WELLACORN_CONTENT = 1024,       /* the longest content that is judged: a longer message is swallowed */
     WELLACORN_ROOMS = 4096,         /* the rooms: 1,024 content bytes for each connection */
     WELLACORN_REPLY = 4096,         /* the reply buffer must hold so many bytes */
@@ -59,55 +62,58 @@ enum {
     WELLACORN_BAD_RANK = 13         /* rank above 2 */
 };
 
-/* ---- What the box holds. Usages are in ms. A setpoint of 0 means no alarm. */
+/* ---- What the box holds.
+ *
+ * The host may read it between calls: levels, counts, usages, relays, the clock, the connections, what is due, how far a message has been
+ * read. It writes to none of it. Usages are in ms. A flag is a word: 0 is no, anything else yes; the calls write 0 and 1. The unused words
+ * are 0. */
 
 typedef struct {
-    bool level;                 /* on or off */
-    bool alarm;                 /* the alarm switch: Alarm State is 1 when it is set and the input is on */
-    uint32_t count;             /* rises, off to on; it stays at 4294967295 once there */
-    uint32_t setpoint_one;      /* count alarm 1 is 1 when the count exceeds it */
-    uint32_t setpoint_two;      /* count alarm 2, the same */
+    uint64_t level;             /* on or off */
+    uint64_t alarm;             /* the alarm switch: Alarm State is 1 when it is set and the input is on */
+    uint64_t count;             /* rises, off to on; it stays at 4294967295 once there */
+    uint64_t setpoint_one;      /* count alarm 1 is 1 when the count exceeds it; a setpoint of 0 means no alarm */
+    uint64_t setpoint_two;      /* count alarm 2, the same */
     uint64_t usage;             /* how long the input has been on; it stops at its largest number */
-    uint64_t usage_setpoint;    /* the usage alarm is 1 when usage is at or above it */
+    uint64_t usage_setpoint;    /* the usage alarm is 1 when usage is at or above it; 0 means no alarm */
+    uint64_t unused;
 } wellacorn_input;
 
 typedef struct {
-    bool closed;                /* closed or open */
+    uint64_t closed;            /* closed or open */
+    uint64_t unused[4];
     uint64_t usage;             /* how long the relay has been closed; it stops at its largest number */
-    uint64_t usage_setpoint;    /* the usage alarm is 1 when usage is at or above it */
+    uint64_t usage_setpoint;    /* as an input's */
+    uint64_t unused_last;
 } wellacorn_relay;
+
+typedef struct {
+    uint64_t time;              /* ms since 1 January 1970 GMT; it stops at its largest number */
+    uint64_t unused[7];
+} wellacorn_clock;
+
+/* A connection, without its half-read message. All zero when shut. */
+typedef struct {
+    uint64_t is_open;           /* open or shut */
+    uint64_t rank;              /* 0 not logged in, 1 user, 2 administrator */
+    uint64_t monitor;           /* Monitor on or off */
+    uint64_t due;               /* Monitor due or not */
+    uint64_t unused[4];
+} wellacorn_line;
 
 typedef struct {
     wellacorn_input inputs[WELLACORN_CHANNELS];
     wellacorn_relay relays[WELLACORN_CHANNELS];
-    uint64_t clock;             /* ms since 1 January 1970 GMT; it stops at its largest number */
-} wellacorn_tables;
-
-/* A connection, without its half-read message. All zero when shut. */
-typedef struct {
-    bool is_open;               /* open or shut */
-    uint8_t rank;               /* 0 not logged in, 1 user, 2 administrator */
-    bool monitor;               /* Monitor on or off */
-    bool due;                   /* Monitor due or not */
-} wellacorn_line;
-
-typedef struct {
-    wellacorn_tables tables;
+    wellacorn_clock clock;
     wellacorn_line lines[WELLACORN_CONNECTIONS];
-} wellacorn_plain;
-
-/* How far a message has been read. All zero at a message start and when the connection is shut. */
-typedef struct {
-    uint32_t got;               /* bytes of it taken: 0 to 5 + N - 1 */
-    uint16_t len;               /* its length N, as far as it has come in: the upper byte first, the rest 0 */
-    uint16_t sum;               /* its checksum, likewise */
-} wellacorn_half;
-
-/* All that the box holds by value. Of a half-read message the content bytes so far stand in the rooms. */
-typedef struct {
-    wellacorn_plain plain;
-    wellacorn_half halves[WELLACORN_CONNECTIONS];
 } wellacorn_board;
+
+/* How far a message has been read. All zero at a message start. Of a shut connection it says nothing. */
+typedef struct {
+    uint64_t got;               /* bytes of it taken: 0 to 5 + N - 1 */
+    uint64_t len;               /* its length N, as far as it has come in: the upper byte first, the rest 0 */
+    uint64_t sum;               /* its checksum, likewise */
+} wellacorn_half;
 
 /* ---- What the host sets at power-up */
 
@@ -126,7 +132,6 @@ typedef struct {
 /* ---- What a call came to */
 
 typedef struct {
-    wellacorn_board board;      /* the box after the call */
     uint8_t answer;             /* the answer number */
     size_t taken;               /* bytes taken of the piece; an event and a collection take none */
     size_t len;                 /* the reply's length, its five header bytes included; 0 for no reply */
@@ -135,20 +140,20 @@ typedef struct {
 /* ---- The calls */
 
 /* The box at power-up: all numbers 0, all relays open, all connections shut, setpoints and alarm switches as the host sets them. */
-wellacorn_board wellacorn_power_up(wellacorn_settings s);
+void wellacorn_power_up(wellacorn_board *board, wellacorn_settings s);
 
 /* Level of input k (1 to 8): v is 0 off, 1 on. Off to on adds one to the count. The same level again changes nothing. A real change makes
  * Monitor due on each open connection of rank 1 or 2 that has it on. Answers 1, or 11 for a bad input or level. */
-wellacorn_done wellacorn_level(wellacorn_board b, uint8_t k, uint8_t v);
+wellacorn_done wellacorn_level(wellacorn_board *board, uint8_t k, uint8_t v);
 
 /* d ms have passed: the clock, the usage of each input that is on and of each closed relay grow by d. Always answers 1. */
-wellacorn_done wellacorn_pass(wellacorn_board b, uint32_t d);
+wellacorn_done wellacorn_pass(wellacorn_board *board, uint32_t d);
 
-/* Opens connection c at a rank: fresh, Monitor on, due if rank is 1 or 2. Answers 1, or 3, 12 or 13. */
-wellacorn_done wellacorn_connect(wellacorn_board b, uint8_t c, uint8_t rank);
+/* Opens connection c at a rank: fresh, at a message start, Monitor on, due if rank is 1 or 2. Answers 1, or 3, 12 or 13. */
+wellacorn_done wellacorn_connect(wellacorn_board *board, wellacorn_half halves[WELLACORN_CONNECTIONS], uint8_t c, uint8_t rank);
 
 /* Closes connection c: its half-read message is dropped, and everything of it is zero. Answers 1, or 3. */
-wellacorn_done wellacorn_close(wellacorn_board b, uint8_t c);
+wellacorn_done wellacorn_close(wellacorn_board *board, wellacorn_half halves[WELLACORN_CONNECTIONS], uint8_t c);
 
 /* Bytes of connection c. They are taken one by one until a message ends or the piece does: `taken` is through the byte that ended it, or
  * the whole piece. A message that ends is served or refused, and what follows it in the piece is to be offered again. A reply is one whole
@@ -159,58 +164,100 @@ wellacorn_done wellacorn_close(wellacorn_board b, uint8_t c);
  *   reply      reply_len bytes, at least 4,096 or the answer is 4. Not null, not even for a length of 0.
  *
  * Answers 0 to 11. */
-wellacorn_done wellacorn_bytes(wellacorn_board b, uint8_t rooms[WELLACORN_ROOMS], uint8_t c, const uint8_t *piece, size_t piece_len,
-                               uint8_t *reply, size_t reply_len);
+wellacorn_done wellacorn_bytes(wellacorn_board *board, wellacorn_half halves[WELLACORN_CONNECTIONS], uint8_t rooms[WELLACORN_ROOMS],
+                               uint8_t c, const uint8_t *piece, size_t piece_len, uint8_t *reply, size_t reply_len);
 
 /* Collects on connection c: if Monitor is due, writes one Monitor message, with the state now, and clears the mark: 1. If not: 0. Several
  * changes before one collection give one message. The reply buffer is as in wellacorn_bytes. Answers 0, 1, 3 or 4. */
-wellacorn_done wellacorn_collect(wellacorn_board b, uint8_t c, uint8_t *reply, size_t reply_len);
+wellacorn_done wellacorn_collect(wellacorn_board *board, uint8_t c, uint8_t *reply, size_t reply_len);
+
+/* ---- The box in one piece: all that is lent, and the same calls on it. What a later version lends besides is added here, and a host that
+ * uses these stays as it is. */
+
+typedef struct {
+    wellacorn_board board;
+    wellacorn_half halves[WELLACORN_CONNECTIONS];
+    uint8_t rooms[WELLACORN_ROOMS];
+} wellacorn_box;
+
+static inline void wellacorn_box_power_up(wellacorn_box *box, wellacorn_settings s)
+{
+    wellacorn_power_up(&box->board, s);
+}
+
+static inline wellacorn_done wellacorn_box_level(wellacorn_box *box, uint8_t k, uint8_t v)
+{
+    return wellacorn_level(&box->board, k, v);
+}
+
+static inline wellacorn_done wellacorn_box_pass(wellacorn_box *box, uint32_t d)
+{
+    return wellacorn_pass(&box->board, d);
+}
+
+static inline wellacorn_done wellacorn_box_connect(wellacorn_box *box, uint8_t c, uint8_t rank)
+{
+    return wellacorn_connect(&box->board, box->halves, c, rank);
+}
+
+static inline wellacorn_done wellacorn_box_close(wellacorn_box *box, uint8_t c)
+{
+    return wellacorn_close(&box->board, box->halves, c);
+}
+
+static inline wellacorn_done wellacorn_box_bytes(wellacorn_box *box, uint8_t c, const uint8_t *piece, size_t piece_len, uint8_t *reply,
+                                                 size_t reply_len)
+{
+    return wellacorn_bytes(&box->board, box->halves, box->rooms, c, piece, piece_len, reply, reply_len);
+}
+
+static inline wellacorn_done wellacorn_box_collect(wellacorn_box *box, uint8_t c, uint8_t *reply, size_t reply_len)
+{
+    return wellacorn_collect(&box->board, c, reply, reply_len);
+}
 
 /* ---- The layout that the archive has, held to what this compiler makes of the structs. host/layout.c holds the archive to it. */
 
+#define WELLACORN_ROW 64    /* bytes */
 #define WELLACORN_SIZE(type, size) static_assert(sizeof(type) == (size), #type " is not of " #size " bytes")
 #define WELLACORN_PLACE(type, field, place) static_assert(offsetof(type, field) == (place), #type "." #field " is not at " #place)
 
 static_assert(sizeof(bool) == 1, "a bool is one byte");
 static_assert(sizeof(size_t) == 8, "a size_t is eight bytes");
 
-WELLACORN_SIZE(wellacorn_input, 32);
+WELLACORN_SIZE(wellacorn_input, WELLACORN_ROW);
 WELLACORN_PLACE(wellacorn_input, level, 0);
-WELLACORN_PLACE(wellacorn_input, alarm, 1);
-WELLACORN_PLACE(wellacorn_input, count, 4);
-WELLACORN_PLACE(wellacorn_input, setpoint_one, 8);
-WELLACORN_PLACE(wellacorn_input, setpoint_two, 12);
-WELLACORN_PLACE(wellacorn_input, usage, 16);
-WELLACORN_PLACE(wellacorn_input, usage_setpoint, 24);
+WELLACORN_PLACE(wellacorn_input, alarm, 8);
+WELLACORN_PLACE(wellacorn_input, count, 16);
+WELLACORN_PLACE(wellacorn_input, setpoint_one, 24);
+WELLACORN_PLACE(wellacorn_input, setpoint_two, 32);
+WELLACORN_PLACE(wellacorn_input, usage, 40);
+WELLACORN_PLACE(wellacorn_input, usage_setpoint, 48);
 
-WELLACORN_SIZE(wellacorn_relay, 24);
+WELLACORN_SIZE(wellacorn_relay, WELLACORN_ROW);
 WELLACORN_PLACE(wellacorn_relay, closed, 0);
-WELLACORN_PLACE(wellacorn_relay, usage, 8);
-WELLACORN_PLACE(wellacorn_relay, usage_setpoint, 16);
+WELLACORN_PLACE(wellacorn_relay, usage, 40);
+WELLACORN_PLACE(wellacorn_relay, usage_setpoint, 48);
 
-WELLACORN_SIZE(wellacorn_tables, 456);
-WELLACORN_PLACE(wellacorn_tables, inputs, 0);
-WELLACORN_PLACE(wellacorn_tables, relays, 256);
-WELLACORN_PLACE(wellacorn_tables, clock, 448);
+WELLACORN_SIZE(wellacorn_clock, WELLACORN_ROW);
+WELLACORN_PLACE(wellacorn_clock, time, 0);
 
-WELLACORN_SIZE(wellacorn_line, 4);
+WELLACORN_SIZE(wellacorn_line, WELLACORN_ROW);
 WELLACORN_PLACE(wellacorn_line, is_open, 0);
-WELLACORN_PLACE(wellacorn_line, rank, 1);
-WELLACORN_PLACE(wellacorn_line, monitor, 2);
-WELLACORN_PLACE(wellacorn_line, due, 3);
+WELLACORN_PLACE(wellacorn_line, rank, 8);
+WELLACORN_PLACE(wellacorn_line, monitor, 16);
+WELLACORN_PLACE(wellacorn_line, due, 24);
 
-WELLACORN_SIZE(wellacorn_plain, 472);
-WELLACORN_PLACE(wellacorn_plain, tables, 0);
-WELLACORN_PLACE(wellacorn_plain, lines, 456);
+WELLACORN_SIZE(wellacorn_board, WELLACORN_ROWS * WELLACORN_ROW);
+WELLACORN_PLACE(wellacorn_board, inputs, 0 * WELLACORN_ROW);
+WELLACORN_PLACE(wellacorn_board, relays, 8 * WELLACORN_ROW);
+WELLACORN_PLACE(wellacorn_board, clock, 16 * WELLACORN_ROW);
+WELLACORN_PLACE(wellacorn_board, lines, 17 * WELLACORN_ROW);
 
-WELLACORN_SIZE(wellacorn_half, 8);
+WELLACORN_SIZE(wellacorn_half, 24);
 WELLACORN_PLACE(wellacorn_half, got, 0);
-WELLACORN_PLACE(wellacorn_half, len, 4);
-WELLACORN_PLACE(wellacorn_half, sum, 6);
-
-WELLACORN_SIZE(wellacorn_board, 504);
-WELLACORN_PLACE(wellacorn_board, plain, 0);
-WELLACORN_PLACE(wellacorn_board, halves, 472);
+WELLACORN_PLACE(wellacorn_half, len, 8);
+WELLACORN_PLACE(wellacorn_half, sum, 16);
 
 WELLACORN_SIZE(wellacorn_input_settings, 24);
 WELLACORN_PLACE(wellacorn_input_settings, setpoint_one, 0);
@@ -222,12 +269,12 @@ WELLACORN_SIZE(wellacorn_settings, 256);
 WELLACORN_PLACE(wellacorn_settings, inputs, 0);
 WELLACORN_PLACE(wellacorn_settings, relays, 192);
 
-WELLACORN_SIZE(wellacorn_done, 528);
-WELLACORN_PLACE(wellacorn_done, board, 0);
-WELLACORN_PLACE(wellacorn_done, answer, 504);
-WELLACORN_PLACE(wellacorn_done, taken, 512);
-WELLACORN_PLACE(wellacorn_done, len, 520);
+WELLACORN_SIZE(wellacorn_done, 24);
+WELLACORN_PLACE(wellacorn_done, answer, 0);
+WELLACORN_PLACE(wellacorn_done, taken, 8);
+WELLACORN_PLACE(wellacorn_done, len, 16);
 
+#undef WELLACORN_ROW
 #undef WELLACORN_SIZE
 #undef WELLACORN_PLACE
 

@@ -1,2 +1,5 @@
 pub mod Answering
+pub mod Keeping
+pub mod PowerUp
 pub mod Rooms
+pub mod Same

@@ -12,24 +12,26 @@
 use mathlib.Core.Path.{_≡_, refl, sym, ap, _∙_}
 use mathlib.Core.List.{List, [], _∷_}
 use mathlib.Core.Option.{none}
-use Prim.Native.Nat.{ℕ}
+use Prim.Native.Nat.{ℕ, zero, suc}
 use native.Mathlib.Omega.{arith}
-use lib.ListN.{length, getD}
+use lib.ListN.{length, getD, replicate}
+use Rattle.laws.proofs.Tests.{by-cases}
 use Rattle.words.specs.Words.{fits, numberAt}
 use Rattle.framing.specs.Cut.{need, whole, cuts, messages, seen}
 use Rattle.framing.specs.Reading.{start}
 use Rattle.changes.specs.Answers.{onRelay}
 use Rattle.layouts.specs.Layouts.{onChannel, judgeCommand}
 use Rattle.orders.specs.Orders.{commandOf, orderOf}
+use Rattle.replies.specs.Replies.{relaysOf}
 use Rattle.readings.specs.Readings.{monitorReply}
-use Rattle.plain.specs.declared.Plain.{Plain}
-use Rattle.plain.specs.Lines.{openedLine, isOpen}
-use Rattle.plain.specs.Marks.{markedLine, marked}
+use Rattle.rows.specs.Places.{Board, isConnection, relayAt, lineAt, putRelay, putLine, onRows}
+use Rattle.plain.specs.Lines.{openedLine}
+use Rattle.plain.specs.Marks.{markedRow, marked}
 use Rattle.plain.specs.Events.{connected, monitorSent, collected}
 use Rattle.serving.specs.Obeying.{obeyed}
 use Rattle.serving.specs.Serving.{servedContent, servedMessage}
 use Rattle.board.specs.declared.Settings.{Settings}
-use Rattle.board.specs.Held.{halfAt}
+use Rattle.board.specs.Halves.{Halves, halfIn, halfAt, putHalf}
 use Rattle.board.specs.PowerUp.{poweredUp}
 use Rattle.board.specs.Calls.{connectCall}
 use Rattle.demand.specs.Demand.{Call, bytes, other, Answer, Machine, final, trace, begins, Meets}
@@ -37,9 +39,9 @@ use Rattle.demand.proofs.Following.{answers-now, answers-after, answers-all}
 use Rattle.demand.proofs.Empty.{Waiting, Frozen, Starving, Nodding, whole-served, not-idle, not-starving, not-frozen, not-nodding}
 use Rattle.demand.proofs.Taking.{rest-none}
 use Rattle.register.specs.Box.{connect, collect, Reply, replyOf, refusalOf, served, box, ends, run}
-use Rattle.cases.specs.Starred.{settings, after, bits}
+use Rattle.cases.specs.Starred.{settings, after, relayBits}
 use Rattle.cases.specs.Empty.{shown, opened, RefusesAll, SameNumber, SameBytes}
-use Rattle.register.proofs.BoxDemand.{blank-at, box-determined}
+use Rattle.register.proofs.BoxDemand.{box-determined}
 use Rattle.register.proofs.BoxLawful.{Sound, box-meets}
 
 -- a toggle of relay 1, a whole message
@@ -51,61 +53,61 @@ unfolding messages cuts whole need
 toggle-whole = refl
 
 -- the plain machine after it
-abbrev toggled : Plain → Plain
+abbrev toggled : Board → Board
 toggled p = served .serve p 0 (seen 1024 toggle) .0
 
 -- it changes relay 1, and again when it comes again
-changes-once : bits (toggled opened .tables .relays) ≡ 1
-unfolding poweredUp connectCall connected openedLine isOpen seen servedMessage servedContent orderOf commandOf judgeCommand onChannel fits numberAt obeyed onRelay marked markedLine
+changes-once : relayBits (toggled opened) ≡ 1
+unfolding relaysOf relayAt lineAt putRelay putLine onRows poweredUp connectCall connected openedLine seen servedMessage servedContent orderOf commandOf judgeCommand onChannel fits numberAt obeyed onRelay marked markedRow
 changes-once = refl
 
-changes-twice : bits (toggled (toggled opened) .tables .relays) ≡ 0
-unfolding poweredUp connectCall connected openedLine isOpen seen servedMessage servedContent orderOf commandOf judgeCommand onChannel fits numberAt obeyed onRelay marked markedLine
+changes-twice : relayBits (toggled (toggled opened)) ≡ 0
+unfolding relaysOf relayAt lineAt putRelay putLine onRows poweredUp connectCall connected openedLine seen servedMessage servedContent orderOf commandOf judgeCommand onChannel fits numberAt obeyed onRelay marked markedRow
 changes-twice = refl
 
-not-yet : bits (opened .tables .relays) ≡ 0
-unfolding poweredUp connectCall connected isOpen
+not-yet : relayBits (opened) ≡ 0
+unfolding relaysOf relayAt lineAt putRelay putLine onRows poweredUp connectCall connected
 not-yet = refl
 
 -- connection 0 takes bytes then
 takes-bytes : refusalOf opened 0 4096 ≡ none
-unfolding poweredUp connectCall connected openedLine isOpen
+unfolding relaysOf relayAt lineAt putRelay putLine onRows poweredUp connectCall connected openedLine
 takes-bytes = refl
 
 takes-more : refusalOf (toggled opened) 0 4096 ≡ none
-unfolding poweredUp connectCall connected openedLine isOpen seen servedMessage servedContent orderOf commandOf judgeCommand onChannel fits numberAt obeyed onRelay marked markedLine
+unfolding relaysOf relayAt lineAt putRelay putLine onRows poweredUp connectCall connected openedLine seen servedMessage servedContent orderOf commandOf judgeCommand onChannel fits numberAt obeyed onRelay marked markedRow
 takes-more = refl
 
 -- at power-up: an opening of connection 0 is served, one of connection 4 is refused
-opening-served : connected 0 2 (poweredUp settings .plain) .answer ≡ 1
-unfolding poweredUp connected isOpen
+opening-served : connected 0 2 (poweredUp settings) .answer ≡ 1
+unfolding relaysOf relayAt lineAt putRelay putLine onRows poweredUp connected
 opening-served = refl
 
-opening-refused : connected 4 2 (poweredUp settings .plain) .answer ≡ 3
+opening-refused : connected 4 2 (poweredUp settings) .answer ≡ 3
 unfolding connected
 opening-refused = refl
 
 -- an opening sends nothing; a collection behind it sends a frame, which begins with 0x01
-opening-silent : connected 0 2 (poweredUp settings .plain) .reply ≡ []
-unfolding poweredUp connected isOpen
+opening-silent : connected 0 2 (poweredUp settings) .reply ≡ []
+unfolding relaysOf relayAt lineAt putRelay putLine onRows poweredUp connected
 opening-silent = refl
 
-collection-sends : getD (collected 0 4096 (connected 0 2 (poweredUp settings .plain) .plain) .reply) 0 0 ≡ 1
-unfolding poweredUp connected openedLine isOpen collected monitorSent monitorReply
+collection-sends : getD (collected 0 4096 (connected 0 2 (poweredUp settings) .board) .reply) 0 0 ≡ 1
+unfolding relaysOf relayAt lineAt putRelay putLine onRows poweredUp connected openedLine collected monitorSent monitorReply
 collection-sends = refl
 
-module _ (M : Machine served) (x : M .State) (D : Meets served M x) (up : M .tables x ≡ poweredUp settings .plain) where
+module _ (M : Machine served) (x : M .State) (D : Meets served M x) (up : M .tables x ≡ poweredUp settings) where
   -- the answer to a first call that is an opening, and that to a collection behind it
-  first-reply : (c : ℕ) → shown (M .call x (other (connect c 2)) .1 .said) ≡ replyOf (connected c 2 (poweredUp settings .plain))
+  first-reply : (c : ℕ) → shown (M .call x (other (connect c 2)) .1 .said) ≡ replyOf (connected c 2 (poweredUp settings))
   first-reply c = rw (answers-now served M x (begins served M x) (answers-all served M x D) (other (connect c 2)), up)
 
-  first-number : (c : ℕ) → shown (M .call x (other (connect c 2)) .1 .said) .number ≡ connected c 2 (poweredUp settings .plain) .answer
+  first-number : (c : ℕ) → shown (M .call x (other (connect c 2)) .1 .said) .number ≡ connected c 2 (poweredUp settings) .answer
   first-number c = ap (λ (r : Reply). r .number) (first-reply c)
 
   abbrev open-first : List (Call served)
   open-first = other (connect 0 2) ∷ []
 
-  next-reply : shown (M .call (final served M x open-first) (other (collect 0 4096)) .1 .said) ≡ replyOf (collected 0 4096 (connected 0 2 (poweredUp settings .plain) .plain))
+  next-reply : shown (M .call (final served M x open-first) (other (collect 0 4096)) .1 .said) ≡ replyOf (collected 0 4096 (connected 0 2 (poweredUp settings) .board))
   next-reply =
       rw (answers-now served M (final served M x open-first) _ (answers-after served M x (begins served M x) (answers-all served M x D) open-first) (other (collect 0 4096)), up)
 
@@ -132,30 +134,37 @@ module _ (M : Machine served) (x : M .State) (D : Meets served M x) (up : M .tab
   shut-out-starving I = not-starving served M x D I 0 4096 ready
 
   pub shut-out-frozen : Frozen served M x → ⊥
-  shut-out-frozen I = not-frozen served M x D I 0 4096 toggle ready toggle-whole (rw up (λ e. omega (arith, ap (λ (p : Plain). bits (p .tables .relays)) e, changes-once, not-yet)))
+  shut-out-frozen I = not-frozen served M x D I 0 4096 toggle ready toggle-whole (rw up (λ e. omega (arith, ap (λ (p : Board). relayBits (p)) e, changes-once, not-yet)))
 
   -- the tables after the first message
   first-done : M .tables (M .call x (bytes 0 4096 toggle) .0) ≡ toggled opened
-  first-done = ap (λ (y : Plain × Answer served). y .0) (whole-served served M x D [] 0 4096 toggle toggle-whole rest-none ready) ∙ ap toggled up
+  first-done = ap (λ (y : Board × Answer served). y .0) (whole-served served M x D [] 0 4096 toggle toggle-whole rest-none ready) ∙ ap toggled up
 
   pub shut-out-nodding : (nod : Reply) → Nodding served M (M .call x (bytes 0 4096 toggle) .0) nod → ⊥
   shut-out-nodding nod N =
       not-nodding served M x D 0 4096 toggle toggle nod ready toggle-whole toggle-whole (rw first-done takes-more) N
-      (rw first-done (λ e. omega (arith, ap (λ (y : Plain × Reply). bits (y .0 .tables .relays)) e, changes-once, changes-twice)))
+      (rw first-done (λ e. omega (arith, ap (λ (y : Board × Reply). relayBits (y .0)) e, changes-once, changes-twice)))
 
 -- the box after power-up, with connection 0 opened at rank 2
 sound-opened : Sound (after [])
-unfolding poweredUp connectCall connected isOpen
-sound-opened = record { four-lines = refl; four-halves = refl; four-rooms = refl }
+unfolding lineAt putLine onRows poweredUp putHalf connectCall connected
+sound-opened = record { four-halves = refl; four-rooms = refl }
 
-fresh-opened : (c : ℕ) → halfAt c (after [] .board) ≡ start
-unfolding poweredUp connectCall connected isOpen
-fresh-opened c = blank-at 4 start c
+nothing-read : (n c : ℕ) → halfIn (getD (replicate n (replicate 3 0)) c []) ≡ start
+nothing-read zero c = refl
+nothing-read (suc n) zero = refl
+nothing-read (suc n) (suc c) = nothing-read n c
+
+fresh-opened : (c : ℕ) → halfAt c (after [] .halves) ≡ start
+unfolding lineAt putLine onRows poweredUp halfAt putHalf connectCall connected
+fresh-opened c = by-cases (isConnection c) (λ h. rw h (nothing-read 4 c)) (λ h. rw h)
 
 pub meets-opened : Meets served box (after [])
 meets-opened = box-meets (after []) sound-opened (λ c o. fresh-opened c)
 
 -- whatever a machine shows that the box does not: an answer number, a reply's bytes or length, bytes taken; or a count in its tables
-pub shut-out-inventing : (s : Settings) (rooms : List ℕ) → length rooms ≡ 4096 → (M : Machine served) (x : M .State) → M .tables x ≡ poweredUp s .plain
-    → (calls : List (Call served)) → ((trace served M x calls ≡ run s rooms calls) × (M .tables (final served M x calls) ≡ ends s rooms calls .board .plain) → ⊥) → Meets served M x → ⊥
-shut-out-inventing s rooms long M x up calls differs D = differs (box-determined s rooms long M x calls up (D calls))
+pub shut-out-inventing : (s : Settings) (hs : Halves) (rooms : List ℕ) → length hs ≡ 4 → length rooms ≡ 4096
+    → (M : Machine served) (x : M .State) → M .tables x ≡ poweredUp s → (calls : List (Call served))
+    → ((trace served M x calls ≡ run s hs rooms calls) × (M .tables (final served M x calls) ≡ ends s hs rooms calls .board) → ⊥)
+    → Meets served M x → ⊥
+shut-out-inventing s hs rooms four long M x up calls differs D = differs (box-determined s hs rooms four long M x calls up (D calls))

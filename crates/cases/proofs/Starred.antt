@@ -1,15 +1,17 @@
--- The starred cases of 01 hold, all of them. Assumes nothing.
-use mathlib.Core.Path.{_≡_, refl}
-use mathlib.Core.List.{map}
+-- The starred cases of 01 hold, all of them: its parts are computed, and `starred` is the whole table. Assumes nothing.
+use mathlib.Core.Path.{_≡_, refl, ap}
+use mathlib.Core.List.{List, [], _∷_, _++_, map}
+use Prim.Native.Nat.{ℕ}
 use Rattle.laws.specs.Put.{put, rows}
-use Rattle.laws.specs.Each.{eachAt, anyBelow}
+use Rattle.laws.specs.Each.{anyBelow}
 use Rattle.laws.specs.Chunks.{chunks}
 use Rattle.words.specs.Words.{fits, numberAt}
 use Rattle.framing.specs.Reading.{stepOf, firstOf, afterOf, roomOf, runOf}
+use Rattle.rows.specs.Places.{inputAt, relayAt, lineAt, putInput, putRelay, putLine, onRows}
 use Rattle.tables.specs.Alarms.{alarmState, countAlarm, usageAlarm}
 use Rattle.changes.specs.Answers.{onInput, onRelay}
 use Rattle.changes.specs.Levels.{told, levelOf}
-use Rattle.changes.specs.Commands.{masked, blockOf}
+use Rattle.changes.specs.Commands.{masked, blockedRow, blockOf}
 use Rattle.tables.specs.Devices.{idOf, firstWith, deviceOf}
 use Rattle.changes.specs.Entries.{inputWritten, writeInput}
 use Rattle.orders.specs.Entries.{fitsExactly}
@@ -17,17 +19,44 @@ use Rattle.layouts.specs.Layouts.{sizedRequest, judgeRequest, onChannel, onBloc
 use Rattle.orders.specs.Orders.{requestOf, commandOf, readOf, writeOf, orderOf}
 use Rattle.readings.specs.Readings as readings
 use Rattle.replies.specs.Replies.{inputsOf, relaysOf}
-use Rattle.readings.specs.Readings.{inputRow, monitorReply, inputBlock, relayBlock, entryOf, idsIn, devicesReply}
+use Rattle.readings.specs.Readings.{inputRow, monitorReply, inputBlock, entryOf, idsIn, devicesReply}
 use Rattle.writes.specs.Writes.{deviceDone, writtenFrom}
-use Rattle.plain.specs.Lines.{openedLine, isOpen}
-use Rattle.plain.specs.Marks.{markedLine, marked}
+use Rattle.plain.specs.Lines.{openedLine}
+use Rattle.plain.specs.Marks.{markedRow, marked}
 use Rattle.plain.specs.Events.{leveled, connected, monitorSent, collected}
 use Rattle.serving.specs.Obeying.{monitorSet, obeyed}
 use Rattle.serving.specs.Serving.{servedContent, servedMessage}
 use Rattle.board.specs.PowerUp.{poweredUp}
-use Rattle.board.specs.Calls.{levelCall, connectCall, collectCall, bytesCall, roomsAfter}
-use Rattle.cases.specs.Starred.{Row, starredCases}
+use Rattle.board.specs.Halves.{halfAt, putHalf}
+use Rattle.board.specs.Calls.{levelCall, connectCall, collectCall, bytesCall, halvesAfter, roomsAfter}
+use Rattle.cases.specs.Starred.{Row, levelCases, blockCases, channelCases, messageCases, starredCases}
+
+-- every row of them does what 01 owes
+record Holds (rs : List Row) : Type 0 where
+  pub rows : map (λ (r : Row). r .does) rs ≡ map (λ (r : Row). r .owes) rs
+
+map-both : (f : Row → List ℕ) (xs ys : List Row) → map f (xs ++ ys) ≡ map f xs ++ map f ys
+map-both f [] ys = refl
+map-both f (x ∷ xs) ys = ap (λ (l : List (List ℕ)). f x ∷ l) (map-both f xs ys)
+
+both : {xs ys : List Row} → Holds xs → Holds ys → Holds (xs ++ ys)
+both {xs} {ys} p q = record { rows = rw (map-both (λ (r : Row). r .does) xs ys, map-both (λ (r : Row). r .owes) xs ys, p .rows, q .rows) }
+
+level-cases : Holds levelCases
+unfolding levelCases inputAt putInput onInput told levelOf idOf firstWith deviceOf inputWritten writeInput fitsExactly judgeWrite writeOf deviceDone writtenFrom markedRow leveled monitorSent collected levelCall collectCall put fits numberAt stepOf firstOf afterOf roomOf runOf lineAt putLine onRows orderOf openedLine marked connected obeyed servedContent servedMessage poweredUp halfAt putHalf connectCall bytesCall halvesAfter roomsAfter
+level-cases = record { rows = refl }
+
+block-cases : Holds blockCases
+unfolding blockCases anyBelow relayAt masked blockedRow blockOf onBlock judgeCommand commandOf relaysOf markedRow monitorSent collected collectCall put fits numberAt stepOf firstOf afterOf roomOf runOf lineAt putLine onRows orderOf openedLine marked connected obeyed servedContent servedMessage poweredUp halfAt putHalf connectCall bytesCall halvesAfter roomsAfter
+block-cases = record { rows = refl }
+
+channel-cases : Holds channelCases
+unfolding channelCases relayAt putRelay onRelay onChannel judgeCommand commandOf relaysOf markedRow put fits numberAt stepOf firstOf afterOf roomOf runOf lineAt putLine onRows orderOf openedLine marked connected obeyed servedContent servedMessage poweredUp halfAt putHalf connectCall bytesCall halvesAfter roomsAfter
+channel-cases = record { rows = refl }
+
+message-cases : Holds messageCases
+unfolding messageCases rows chunks inputAt relayAt putInput alarmState countAlarm usageAlarm onInput idOf firstWith deviceOf inputWritten writeInput fitsExactly sizedRequest judgeRequest judgeRead judgeWrite requestOf readOf writeOf inputsOf relaysOf inputRow monitorReply inputBlock readings.blockOf entryOf idsIn devicesReply deviceDone writtenFrom monitorSent collected monitorSet collectCall put fits numberAt stepOf firstOf afterOf roomOf runOf lineAt putLine onRows orderOf openedLine marked connected obeyed servedContent servedMessage poweredUp halfAt putHalf connectCall bytesCall halvesAfter roomsAfter
+message-cases = record { rows = refl }
 
 pub starred : map (λ (r : Row). r .does) starredCases ≡ map (λ (r : Row). r .owes) starredCases
-unfolding put rows eachAt anyBelow chunks fits numberAt stepOf firstOf afterOf roomOf runOf alarmState countAlarm usageAlarm onInput onRelay told levelOf masked blockOf idOf firstWith deviceOf inputWritten writeInput fitsExactly sizedRequest judgeRequest onChannel onBlock judgeCommand judgeRead judgeWrite requestOf commandOf readOf writeOf orderOf inputsOf relaysOf inputRow monitorReply inputBlock relayBlock readings.blockOf entryOf idsIn devicesReply deviceDone writtenFrom openedLine isOpen markedLine marked leveled connected monitorSent collected monitorSet obeyed servedContent servedMessage poweredUp levelCall connectCall collectCall bytesCall roomsAfter
-starred = refl
+starred = both (both (both level-cases block-cases) channel-cases) message-cases .rows

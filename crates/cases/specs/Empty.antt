@@ -2,7 +2,7 @@
 use mathlib.Core.Path.{_≡_}
 use mathlib.Core.List.{List, []}
 use Prim.Native.Nat.{ℕ, _≤_}
-use Rattle.plain.specs.declared.Plain.{Plain}
+use Rattle.rows.specs.Places.{Board}
 use Rattle.demand.specs.Demand.{Said, waits, refused, did, Call, Machine, final}
 use Rattle.register.specs.Box.{Reply, refusing, served}
 use Rattle.cases.specs.Starred.{after}
@@ -13,9 +13,9 @@ shown waits = refusing 0
 shown (refused r) = r
 shown (did r) = r
 
--- what the plain machine holds after power-up, with connection 0 opened at rank 2
-abbrev pub opened : Plain
-opened = after [] .board .plain
+-- the board after power-up, with connection 0 opened at rank 2
+abbrev pub opened : Board
+opened = after [] .board
 
 module _ (M : Machine served) (x : M .State) where
   -- "one refusing everything": each call from here on has one of the numbers from 3 on

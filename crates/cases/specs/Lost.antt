@@ -1,7 +1,7 @@
 -- Three versions of the box that lose something, as machines over the same calls. Assumes nothing.
 use mathlib.Core.List.{List, [], _∷_, map}
 use Prim.Native.Nat.{ℕ}
-use Rattle.board.specs.Held.{boardOf, halfAt, putHalf}
+use Rattle.board.specs.Halves.{halfAt, putHalf}
 use Rattle.board.specs.Rooms.{roomAt, putRoom}
 use Rattle.demand.specs.Demand.{waits, Call, bytes, other, Answer, answer, Machine, Trace}
 use Rattle.register.specs.Box.{connect, close, served, Held, held, boxCall}
@@ -9,11 +9,11 @@ use Rattle.cases.specs.Empty.{shown}
 
 -- the box with another call
 abbrev pub boxWith : (Held → Call served → Held × Answer served) → Machine served
-boxWith call = record { State = Held; tables = λ x. x .board .plain; call = call }
+boxWith call = record { State = Held; tables = λ x. x .board; call = call }
 
 -- "one half-read store for two connections": connection d has what connection c has read
 abbrev pub lending : ℕ → ℕ → Held → Held
-lending c d x = held (boardOf (x .board .plain) (putHalf d (halfAt c (x .board)) (x .board .halves))) (putRoom d (roomAt c (x .rooms)) (x .rooms))
+lending c d x = held (x .board) (putHalf d (halfAt c (x .halves)) (x .halves)) (putRoom d (roomAt c (x .rooms)) (x .rooms))
 
 -- every piece is read on from connection 0's store, and left there
 abbrev pub sharedCall : Held → Call served → Held × Answer served
@@ -28,7 +28,7 @@ mutedCall x (other e) = boxCall x (other e)
 -- a message half read at a closing is kept, and read on after the next opening: no event touches the half-read messages
 abbrev pub keepingCall : Held → Call served → Held × Answer served
 keepingCall x (bytes c room piece) = boxCall x (bytes c room piece)
-keepingCall x (other e) = (held (boardOf (boxCall x (other e) .0 .board .plain) (x .board .halves)) (x .rooms), boxCall x (other e) .1)
+keepingCall x (other e) = (held (boxCall x (other e) .0 .board) (x .halves) (x .rooms), boxCall x (other e) .1)
 
 -- the answer numbers of a run
 abbrev pub numbers : Trace served → List ℕ

@@ -4,9 +4,9 @@ use mathlib.Core.Bool.{false, cond}
 use mathlib.Core.List.{List, [], _∷_, _++_}
 use Prim.Native.Nat.{ℕ, _+_, _*_}
 use lib.ListN.{length, getD, replicate}
-use Rattle.tables.specs.declared.Relay.{Relay}
-use Rattle.tables.specs.Held.{inputAt}
-use Rattle.plain.specs.Lines.{lineAt}
+use Rattle.rows.specs.declared.Relay.{Relay}
+use Rattle.rows.specs.Places.{Board, inputAt, lineAt}
+use Rattle.replies.specs.Replies.{relaysOf}
 use Rattle.board.specs.declared.Settings.{Settings}
 use Rattle.demand.specs.Demand.{Call, bytes, other}
 use Rattle.register.specs.Box.{level, connect, collect, Held, served, effectOf, ends}
@@ -43,21 +43,24 @@ writesInput flags count = sends ((0x17 ∷ 0x00 ∷ 0x01 ∷ 0 ∷ 0 ∷ 0 ∷ 0
 
 -- the box after power-up, connection 0 opened at rank 2, and these calls
 abbrev pub after : List (Call served) → Held
-after calls = ends settings (replicate 4096 0) (other (connect 0 2) ∷ calls)
+after calls = ends settings (replicate 4 (replicate 3 0)) (replicate 4096 0) (other (connect 0 2) ∷ calls)
 
 -- what is asked of it: input 1's count, the relays (lowest bit channel 1), and whether Monitor is due on connection 0 (1) or not (0)
 abbrev pub count : List (Call served) → ℕ
-count calls = inputAt 1 (after calls .board .plain .tables) .count
+count calls = inputAt 1 (after calls .board) .count
 
 abbrev pub bits : List Relay → ℕ
 bits [] = 0
 bits (r ∷ rs) = cond (r .closed) 1 0 + 2 * bits rs
 
+abbrev pub relayBits : Board → ℕ
+relayBits b = bits (relaysOf b)
+
 abbrev pub relays : List (Call served) → ℕ
-relays calls = bits (after calls .board .plain .tables .relays)
+relays calls = relayBits (after calls .board)
 
 abbrev pub due : List (Call served) → ℕ
-due calls = cond (lineAt 0 (after calls .board .plain) .due) 1 0
+due calls = cond (lineAt 0 (after calls .board) .due) 1 0
 
 -- the answer number of one call more, and byte i of its reply
 abbrev pub number : List (Call served) → Call served → ℕ
@@ -75,31 +78,71 @@ abbrev pub row : List ℕ → List ℕ → Row
 row does owes = record { does = does; owes = owes }
 
 -- THE STARRED CASES, in 01's order
-abbrev pub starredCases : List Row
-starredCases =
-    -- "Count 4294967294, a rise: 4294967295. Then another: the same."
+-- 01, Both sides of each edge, 1: a rise reaches the largest count, and stays there
+abbrev pub countTop : List Row
+countTop =
     row (count (writesInput 2 (0xFF ∷ 0xFF ∷ 0xFF ∷ 0xFE ∷ []) ∷ []) ∷ []) (4294967294 ∷ []) ∷
     row (count (writesInput 2 (0xFF ∷ 0xFF ∷ 0xFF ∷ 0xFE ∷ []) ∷ told 1 ∷ []) ∷ []) (4294967295 ∷ []) ∷
-    row (count (writesInput 2 (0xFF ∷ 0xFF ∷ 0xFF ∷ 0xFE ∷ []) ∷ told 1 ∷ told 0 ∷ told 1 ∷ []) ∷ []) (4294967295 ∷ []) ∷
-    -- "Input on told on: count and due marks unchanged": not due stays so, and due stays so
+    row (count (writesInput 2 (0xFF ∷ 0xFF ∷ 0xFF ∷ 0xFE ∷ []) ∷ told 1 ∷ told 0 ∷ told 1 ∷ []) ∷ []) (4294967295 ∷ []) ∷ []
+
+-- 2: an input that is on, told on: neither count nor mark changes; what was not due stays so, and what was due stays so
+abbrev pub toldAgain : List Row
+toldAgain =
     row (count (told 1 ∷ collects ∷ []) ∷ due (told 1 ∷ collects ∷ []) ∷ []) (1 ∷ 0 ∷ []) ∷
     row (number (told 1 ∷ collects ∷ []) (told 1) ∷ count (told 1 ∷ collects ∷ told 1 ∷ []) ∷ due (told 1 ∷ collects ∷ told 1 ∷ []) ∷ []) (1 ∷ 1 ∷ 0 ∷ []) ∷
-    row (count (told 1 ∷ told 1 ∷ []) ∷ due (told 1 ∷ told 1 ∷ []) ∷ []) (1 ∷ 1 ∷ []) ∷
-    -- "Relays 00000101, mask 00000110, state 00000010: 00000011."
-    row (relays (blockWith 5 5 ∷ []) ∷ relays (blockWith 5 5 ∷ blockWith 6 2 ∷ []) ∷ []) (5 ∷ 3 ∷ []) ∷
-    -- "Mask 0: answer 1, no due mark", whatever the state byte is
-    row (number (collects ∷ []) (blockWith 0 255) ∷ due (collects ∷ blockWith 0 255 ∷ []) ∷ relays (blockWith 0 255 ∷ []) ∷ []) (1 ∷ 0 ∷ 0 ∷ []) ∷
-    -- "Channel 8 toggles; channel 9 and channel 0: 11."
+    row (count (told 1 ∷ told 1 ∷ []) ∷ due (told 1 ∷ told 1 ∷ []) ∷ []) (1 ∷ 1 ∷ []) ∷ []
+
+-- 3: relays 00000101 under mask 00000110 and state 00000010 are 00000011
+abbrev pub maskedBlock : List Row
+maskedBlock =
+    row (relays (blockWith 5 5 ∷ []) ∷ relays (blockWith 5 5 ∷ blockWith 6 2 ∷ []) ∷ []) (5 ∷ 3 ∷ []) ∷ []
+
+-- 4: mask 0 answers 1 and marks nothing, whatever the state byte is
+abbrev pub maskZero : List Row
+maskZero =
+    row (number (collects ∷ []) (blockWith 0 255) ∷ due (collects ∷ blockWith 0 255 ∷ []) ∷ relays (blockWith 0 255 ∷ []) ∷ []) (1 ∷ 0 ∷ 0 ∷ []) ∷ []
+
+-- 5: channel 8 toggles; channels 9 and 0 are refused with 11
+abbrev pub channelEdges : List Row
+channelEdges =
     row (number [] (toggles 8) ∷ relays (toggles 8 ∷ []) ∷ relays (toggles 8 ∷ toggles 8 ∷ []) ∷ []) (1 ∷ 128 ∷ 0 ∷ []) ∷
     row (number [] (toggles 9) ∷ relays (toggles 9 ∷ []) ∷ []) (11 ∷ 0 ∷ []) ∷
-    row (number [] (toggles 0) ∷ relays (toggles 0 ∷ []) ∷ []) (11 ∷ 0 ∷ []) ∷
-    -- "N = 0 with 0xFFFF: 8."
-    row (number [] (sends []) ∷ []) (8 ∷ []) ∷
-    -- "Request 4 with interval, 7 bytes: 1; 6 bytes: 10."
+    row (number [] (toggles 0) ∷ relays (toggles 0 ∷ []) ∷ []) (11 ∷ 0 ∷ []) ∷ []
+
+-- 6: N = 0 with 0xFFFF is refused with 8
+abbrev pub emptyContent : List Row
+emptyContent =
+    row (number [] (sends []) ∷ []) (8 ∷ []) ∷ []
+
+-- 7: request 4 with its interval, 7 bytes, is served; 6 bytes are refused with 10
+abbrev pub requestLengths : List Row
+requestLengths =
     row (number [] (sends (0x05 ∷ 0x00 ∷ 0x04 ∷ 0 ∷ 0 ∷ 0 ∷ 1 ∷ [])) ∷ []) (1 ∷ []) ∷
-    row (number [] (sends (0x05 ∷ 0x00 ∷ 0x04 ∷ 0 ∷ 0 ∷ 1 ∷ [])) ∷ []) (10 ∷ []) ∷
-    -- "Write flags 3, count 7: 7."
-    row (number [] (writesInput 3 (0 ∷ 0 ∷ 0 ∷ 7 ∷ [])) ∷ count (writesInput 3 (0 ∷ 0 ∷ 0 ∷ 7 ∷ []) ∷ []) ∷ []) (1 ∷ 7 ∷ []) ∷
-    -- "Setpoint 100: count 100 no alarm, 101 alarm": byte 24 of a read block's reply, and byte 28 of a Monitor message, is the first count alarm
+    row (number [] (sends (0x05 ∷ 0x00 ∷ 0x04 ∷ 0 ∷ 0 ∷ 1 ∷ [])) ∷ []) (10 ∷ []) ∷ []
+
+-- 8: write flags 3 with count 7 leave 7
+abbrev pub resetAndWrite : List Row
+resetAndWrite =
+    row (number [] (writesInput 3 (0 ∷ 0 ∷ 0 ∷ 7 ∷ [])) ∷ count (writesInput 3 (0 ∷ 0 ∷ 0 ∷ 7 ∷ []) ∷ []) ∷ []) (1 ∷ 7 ∷ []) ∷ []
+
+-- 9: setpoint 100: no alarm at 100, an alarm at 101; the first count alarm is byte 24 of a read block's reply and byte 28 of a Monitor message
+abbrev pub setpointEdge : List Row
+setpointEdge =
     row (replyByte (writesInput 2 (0 ∷ 0 ∷ 0 ∷ 100 ∷ []) ∷ []) readsInput 24 ∷ replyByte (writesInput 2 (0 ∷ 0 ∷ 0 ∷ 100 ∷ []) ∷ []) collects 28 ∷ []) (0 ∷ 0 ∷ []) ∷
     row (replyByte (writesInput 2 (0 ∷ 0 ∷ 0 ∷ 101 ∷ []) ∷ []) readsInput 24 ∷ replyByte (writesInput 2 (0 ∷ 0 ∷ 0 ∷ 101 ∷ []) ∷ []) collects 28 ∷ []) (1 ∷ 1 ∷ []) ∷ []
+
+-- in four parts, each of which is computed by itself; and all of them
+unfoldable pub levelCases : List Row
+levelCases = countTop ++ toldAgain
+
+unfoldable pub blockCases : List Row
+blockCases = maskedBlock ++ maskZero
+
+unfoldable pub channelCases : List Row
+channelCases = channelEdges
+
+unfoldable pub messageCases : List Row
+messageCases = emptyContent ++ requestLengths ++ resetAndWrite ++ setpointEdge
+
+abbrev pub starredCases : List Row
+starredCases = levelCases ++ blockCases ++ channelCases ++ messageCases

@@ -1,29 +1,52 @@
 -- What a change of one input or relay answers. Document 01, "Answer numbers" and "Events besides bytes".
 -- Assumes nothing.
+use mathlib.Core.Path.{_≡_}
 use mathlib.Core.Bool.{Bool, Bool·beq, false, cond, not}
 use Prim.Native.Nat.{ℕ}
-use Rattle.tables.specs.declared.Input.{Input}
-use Rattle.tables.specs.declared.Relay.{Relay}
-use Rattle.tables.specs.declared.Tables.{Tables}
+use Rattle.rows.specs.declared.Input.{Input}
+use Rattle.rows.specs.declared.Relay.{Relay}
+use Rattle.rows.specs.Places.{Board, isChannel, inputAt, relayAt, putInput, putRelay}
 use Rattle.changes.specs.declared.Changed.{Changed}
-use Rattle.tables.specs.Held.{isChannel, inputAt, relayAt, putInput, putRelay}
 
--- "1: served"; changed: whether "the level of an input or the state of a relay really changes"
-abbrev pub served : Bool → Tables → Changed
-served changed t = record { answer = 1; changed = changed; tables = t }
+-- what a change comes to: the whole board then, 01's answer number, and whether "the level of an input or the state of a relay really changes"
+pub record Change : Type 0 where
+  pub board : Board
+  pub answer : ℕ
+  pub changed : Bool
 
--- "11: action, request, channel, input, level or flags out of range": "changes nothing at all"
-abbrev pub refused : Tables → Changed
-refused t = record { answer = 11; changed = false; tables = t }
+-- what the call gives back of it
+abbrev pub given : Change → Changed
+given m = record { answer = m .answer; changed = m .changed }
+
+-- the board that the call leaves, and what it gives back
+pub record Makes (m : Change) (b : Board) (r : Changed) : Type 0 where
+  pub leaves : b ≡ m .board
+  pub gives : r ≡ given m
+
+-- "11: action, request, channel, input, level or flags out of range"
+abbrev pub noChange : Changed
+noChange = record { answer = 11; changed = false }
+
+-- 01, Answer numbers, 1: served, and nothing of it really changed
+abbrev pub sameAgain : Changed
+sameAgain = record { answer = 1; changed = false }
+
+-- "1: served"
+abbrev pub served : Bool → Board → Change
+served changed t = record { answer = 1; changed = changed; board = t }
+
+-- so answered, it "changes nothing at all"
+abbrev pub refused : Board → Change
+refused t = record { answer = 11; changed = false; board = t }
 
 -- "really changes": the two are not equal
 abbrev pub differ : Bool → Bool → Bool
 differ before after = not (Bool·beq before after)
 
 -- input k becomes what f makes of it, which "really changes" it where its level changes; a number that is no input's is refused
-unfoldable pub onInput : (Input → Input) → ℕ → Tables → Changed
+unfoldable pub onInput : (Input → Input) → ℕ → Board → Change
 onInput f k t = cond (isChannel k) (served (differ (inputAt k t .level) (f (inputAt k t) .level)) (putInput k (f (inputAt k t)) t)) (refused t)
 
 -- relay k becomes what f makes of it, which "really changes" it where its state changes; a number that is no relay's is refused
-unfoldable pub onRelay : (Relay → Relay) → ℕ → Tables → Changed
+unfoldable pub onRelay : (Relay → Relay) → ℕ → Board → Change
 onRelay f k t = cond (isChannel k) (served (differ (relayAt k t .closed) (f (relayAt k t) .closed)) (putRelay k (f (relayAt k t)) t)) (refused t)

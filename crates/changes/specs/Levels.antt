@@ -1,12 +1,11 @@
 -- The level of an input. Document 01, "Events besides bytes". Assumes nothing.
-use mathlib.Core.Bool.{Bool, cond, not, _&&_}
+use mathlib.Core.Bool.{Bool, Bool·beq, false, cond, not, _&&_}
 use Prim.Native.Nat.{ℕ, _+_, min}
 use lib.Dec.{eqb, ltb}
-use Rattle.tables.specs.declared.Input.{Input}
-use Rattle.tables.specs.declared.Tables.{Tables}
-use Rattle.changes.specs.declared.Changed.{Changed}
+use Rattle.rows.specs.declared.Input.{Input}
+use Rattle.rows.specs.Places.{Board, isChannel, inputAt}
 use Rattle.tables.specs.Held.{leveled, counted}
-use Rattle.changes.specs.Answers.{refused, onInput}
+use Rattle.changes.specs.Answers.{Change, served, refused, onInput}
 
 -- "Off to on adds one to the count, which stays at 4294967295 once there."
 abbrev pub raised : Bool → Bool → ℕ → ℕ
@@ -16,6 +15,10 @@ raised before after count = cond (not before && after) (min (count + 1) 42949672
 unfoldable pub told : Bool → Input → Input
 told on i = leveled on (counted (raised (i .level) on (i .count)) i)
 
--- "Level of input k", 0 off or 1 on; "11 for a bad input or level"
-unfoldable pub levelOf : ℕ → ℕ → Tables → Changed
-levelOf k v t = cond (ltb 1 v) (refused t) (onInput (told (eqb v 1)) k t)
+-- 01, Events, 1: input k is one of the box's and has this level already
+abbrev pub hasLevel : ℕ → Bool → Board → Bool
+hasLevel k on t = isChannel k && Bool·beq (inputAt k t .level) on
+
+-- 01, Events, 1: a level is 0 or 1; the one that the input has leaves every word; else the input is told it. A bad input or level: 11
+unfoldable pub levelOf : ℕ → ℕ → Board → Change
+levelOf k v t = cond (ltb 1 v) (refused t) (cond (hasLevel k (eqb v 1) t) (served false t) (onInput (told (eqb v 1)) k t))

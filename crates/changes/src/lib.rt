@@ -1,41 +1,49 @@
-// The changes of the tables: what a level, a command and an entry of a WriteDevices message do to them. It alone tells a change from
+// The changes of the lent board: what a level, a command and an entry of a WriteDevices message do to it. It alone tells a change from
 // none. Assumes nothing of its callers.
 
 ghost use mathlib.Core.Path.{_≡_};
 ghost use mathlib.Core.Bool.{_||_, cond};
 ghost use Prim.Native.Nat.{_<_};
+ghost use Rattle.rows.specs.Places.{relayAt, putRelay};
+ghost use Rattle.tables.specs.Held.{switched};
 ghost use Rattle.tables.specs.Bits.{bitOf};
-ghost use Rattle.changes.specs.Answers.{refused, onInput, onRelay};
-ghost use Rattle.changes.specs.Levels.{raised, told, levelOf};
+ghost use Rattle.changes.specs.Answers.{Makes, noChange, sameAgain, differ, onInput, onRelay};
+ghost use Rattle.changes.specs.Levels.{raised, told, hasLevel, levelOf};
 ghost use Rattle.changes.specs.Commands.{closeRelay, openRelay, toggleRelay, clearCount, clearInputUsage, clearRelayUsage, masked, blockOf};
 ghost use Rattle.changes.specs.Entries.{countWritten, stateWritten, inputWritten, relayWritten, relayFails, writeInput, writeRelay};
 ghost use Rattle.changes.specs.Edits.{inputEdited, relayEdited};
-use tables::Input;
-use tables::Relay;
-use tables::Tables;
+use rows::Input;
+use rows::ROWS;
+use rows::Relay;
 
-// The tables after it, 01's answer number, and whether a level or a relay's state really changed. The tables stand first: behind smaller
-// fields they would be copied once more wherever they are handed on.
-#[repr(C)]
+// 01's answer number, and whether a level or a relay's state really changed.
 pub struct Changed {
-    pub tables: Tables,
     pub answer: u8,
     pub changed: bool,
 }
 
 // Nothing is changed: 11, of a channel, a level or flags out of range.
-pub fn refuse(t: Tables) -> Changed
-    ensures { λ r. ⌜ r ≡ refused t ⌝ }
+pub fn refuse() -> Changed
+    ensures { λ r. ⌜ r ≡ noChange ⌝ }
 {
     Changed {
         answer: 11,
         changed: false,
-        tables: t,
+    }
+}
+
+// Served, and nothing is changed.
+fn unchanged() -> Changed
+    ensures { λ r. ⌜ r ≡ sameAgain ⌝ }
+{
+    Changed {
+        answer: 1,
+        changed: false,
     }
 }
 
 // A rise counts, up to the largest number.
-fn raise(before: bool, after: bool, count: u32) -> u32
+fn raise(before: bool, after: bool, count: u64) -> u64
     ensures { λ r. ⌜ r ≡ raised before after count ⌝ }
 {
     if before {
@@ -45,6 +53,7 @@ fn raise(before: bool, after: bool, count: u32) -> u32
         if count < 0xFFFF_FFFF {
             return count + 1;
         }
+        return 0xFFFF_FFFF;
     }
     count
 }
@@ -66,7 +75,7 @@ fn bit(m: u8, k: usize) -> bool
 }
 
 // The count after an entry. The write is judged first: it stands over a reset.
-fn count_written(flags: u8, count: u32, was: u32) -> u32
+fn count_written(flags: u8, count: u64, was: u64) -> u64
     ensures { λ r. ⌜ r ≡ countWritten flags count was ⌝ }
 {
     if bit(flags, 1) {
@@ -90,7 +99,7 @@ fn usage_after(reset: bool, usage: u64) -> u64
     if reset { 0 } else { usage }
 }
 
-fn input_written(mut i: Input, flags: u8, count: u32) -> Input
+fn input_written(mut i: Input, flags: u8, count: u64) -> Input
     ensures { λ r. ⌜ r ≡ inputWritten flags count i ⌝ }
 {
     i.count = count_written(flags, count, i.count);
@@ -111,7 +120,7 @@ enum InputEdit {
     Tell(bool),
     ClearCount,
     ClearUsage,
-    Write(u8, u32),
+    Write(u8, u64),
 }
 
 // What is done to one relay: a command switches or clears, an entry of a WriteDevices message writes (flags, state).
@@ -148,102 +157,113 @@ fn edited_relay(mut r: Relay, edit: RelayEdit) -> Relay
     r
 }
 
-// Every edit of one input is made here: the channel is judged, and a change told from none. There is one way out, so that a refusal adds no copy of the tables.
-fn edit_input(mut t: Tables, channel: u16, edit: InputEdit) -> Changed
-    ensures { λ r. ⌜ r ≡ onInput (inputEdited edit) channel t ⌝ }
+// Every edit of one input is made here: the channel is judged, and a change told from none.
+fn edit_input(board: &mut [[u64; 8]; ROWS], channel: u16, edit: InputEdit) -> Changed
+    ensures { λ r. ⌜ Makes (onInput (inputEdited edit) channel (now (board .entry))) (now (board .exit)) r ⌝ }
 {
-    let mut answer = 11;
-    let mut changed = false;
-    if tables::is_channel(channel) {
-        let at = (channel - 1) as usize;
-        let was = t.inputs[at];
-        let i = edited_input(was, edit);
-        t.inputs[at] = i;
-        answer = 1;
-        changed = was.level != i.level;
+    let k = channel as usize;
+    if !rows::is_channel(k) {
+        return refuse();
     }
+    let was = rows::input_at(board, k);
+    let i = edited_input(was, edit);
+    rows::put_input(board, k, i);
     Changed {
-        answer,
-        changed,
-        tables: t,
+        answer: 1,
+        changed: was.level != i.level,
     }
 }
 
 // Every edit of one relay, in the same way.
-fn edit_relay(mut t: Tables, channel: u16, edit: RelayEdit) -> Changed
-    ensures { λ r. ⌜ r ≡ onRelay (relayEdited edit) channel t ⌝ }
+fn edit_relay(board: &mut [[u64; 8]; ROWS], channel: u16, edit: RelayEdit) -> Changed
+    ensures { λ r. ⌜ Makes (onRelay (relayEdited edit) channel (now (board .entry))) (now (board .exit)) r ⌝ }
 {
-    let mut answer = 11;
-    let mut changed = false;
-    if tables::is_channel(channel) {
-        let at = (channel - 1) as usize;
-        let was = t.relays[at];
-        let r = edited_relay(was, edit);
-        t.relays[at] = r;
-        answer = 1;
-        changed = was.closed != r.closed;
+    let k = channel as usize;
+    if !rows::is_channel(k) {
+        return refuse();
     }
+    let was = rows::relay_at(board, k);
+    let r = edited_relay(was, edit);
+    rows::put_relay(board, k, r);
     Changed {
-        answer,
-        changed,
-        tables: t,
+        answer: 1,
+        changed: was.closed != r.closed,
     }
 }
 
-// An input is told its level, 0 off or 1 on.
-pub fn level(t: Tables, input: u8, level: u8) -> Changed
-    ensures { λ r. ⌜ r ≡ levelOf input level t ⌝ }
+// Whether an input has a level already: a number that is no input's has none.
+fn has_level(board: &[[u64; 8]; ROWS], input: u8, on: bool) -> bool
+    ensures { λ r. ⌜ r ≡ hasLevel input on (now (board .entry)) ⌝ }
+{
+    let k = input as usize;
+    let i = rows::input_at(board, k);
+    rows::is_channel(k) && i.level == on
+}
+
+// An input is told its level, 0 off or 1 on. The level that it has is not stored again.
+pub fn level(board: &mut [[u64; 8]; ROWS], input: u8, level: u8) -> Changed
+    ensures { λ r. ⌜ Makes (levelOf input level (now (board .entry))) (now (board .exit)) r ⌝ }
 {
     if 1 < level {
-        return refuse(t);
+        return refuse();
     }
-    edit_input(t, input as u16, InputEdit::Tell(level == 1))
+    let on = level == 1;
+    if has_level(board, input, on) {
+        return unchanged();
+    }
+    edit_input(board, input as u16, InputEdit::Tell(on))
 }
 
 // The actions of a Command message that have a channel: 1 close, 2 open, 3 toggle, 5 clear input count, 8 clear input usage, 9 clear relay usage.
-pub fn close_relay(t: Tables, channel: u16) -> Changed
-    ensures { λ r. ⌜ r ≡ closeRelay channel t ⌝ }
+pub fn close_relay(board: &mut [[u64; 8]; ROWS], channel: u16) -> Changed
+    ensures { λ r. ⌜ Makes (closeRelay channel (now (board .entry))) (now (board .exit)) r ⌝ }
 {
-    edit_relay(t, channel, RelayEdit::Close)
+    edit_relay(board, channel, RelayEdit::Close)
 }
 
-pub fn open_relay(t: Tables, channel: u16) -> Changed
-    ensures { λ r. ⌜ r ≡ openRelay channel t ⌝ }
+pub fn open_relay(board: &mut [[u64; 8]; ROWS], channel: u16) -> Changed
+    ensures { λ r. ⌜ Makes (openRelay channel (now (board .entry))) (now (board .exit)) r ⌝ }
 {
-    edit_relay(t, channel, RelayEdit::Open)
+    edit_relay(board, channel, RelayEdit::Open)
 }
 
-pub fn toggle_relay(t: Tables, channel: u16) -> Changed
-    ensures { λ r. ⌜ r ≡ toggleRelay channel t ⌝ }
+pub fn toggle_relay(board: &mut [[u64; 8]; ROWS], channel: u16) -> Changed
+    ensures { λ r. ⌜ Makes (toggleRelay channel (now (board .entry))) (now (board .exit)) r ⌝ }
 {
-    edit_relay(t, channel, RelayEdit::Toggle)
+    edit_relay(board, channel, RelayEdit::Toggle)
 }
 
-pub fn clear_count(t: Tables, channel: u16) -> Changed
-    ensures { λ r. ⌜ r ≡ clearCount channel t ⌝ }
+pub fn clear_count(board: &mut [[u64; 8]; ROWS], channel: u16) -> Changed
+    ensures { λ r. ⌜ Makes (clearCount channel (now (board .entry))) (now (board .exit)) r ⌝ }
 {
-    edit_input(t, channel, InputEdit::ClearCount)
+    edit_input(board, channel, InputEdit::ClearCount)
 }
 
-pub fn clear_input_usage(t: Tables, channel: u16) -> Changed
-    ensures { λ r. ⌜ r ≡ clearInputUsage channel t ⌝ }
+pub fn clear_input_usage(board: &mut [[u64; 8]; ROWS], channel: u16) -> Changed
+    ensures { λ r. ⌜ Makes (clearInputUsage channel (now (board .entry))) (now (board .exit)) r ⌝ }
 {
-    edit_input(t, channel, InputEdit::ClearUsage)
+    edit_input(board, channel, InputEdit::ClearUsage)
 }
 
-pub fn clear_relay_usage(t: Tables, channel: u16) -> Changed
-    ensures { λ r. ⌜ r ≡ clearRelayUsage channel t ⌝ }
+pub fn clear_relay_usage(board: &mut [[u64; 8]; ROWS], channel: u16) -> Changed
+    ensures { λ r. ⌜ Makes (clearRelayUsage channel (now (board .entry))) (now (board .exit)) r ⌝ }
 {
-    edit_relay(t, channel, RelayEdit::ClearUsage)
+    edit_relay(board, channel, RelayEdit::ClearUsage)
 }
 
-fn mask_relay(mut r: Relay, chosen: bool, state: bool) -> Relay
-    ensures { λ n. ⌜ n ≡ masked chosen state r ⌝ }
+// Relay k takes a state if it is chosen; whether that changed it.
+fn mask_relay(board: &mut [[u64; 8]; ROWS], k: usize, chosen: bool, state: bool) -> bool
+    ensures { λ r. ⌜ now (board .exit) ≡ cond chosen (putRelay k (switched state (relayAt k (now (board .entry)))) (now (board .entry))) (now (board .entry)) ⌝ }
+    ensures { λ r. ⌜ r ≡ differ (relayAt k (now (board .entry)) .closed) (masked chosen state (relayAt k (now (board .entry))) .closed) ⌝ }
 {
-    if chosen {
-        r.closed = state;
+    if !chosen {
+        return false;
     }
-    r
+    let was = rows::relay_at(board, k);
+    let mut r = was;
+    r.closed = state;
+    rows::put_relay(board, k, r);
+    was.closed != state
 }
 
 fn either(a: bool, b: bool) -> bool
@@ -253,34 +273,25 @@ fn either(a: bool, b: bool) -> bool
 }
 
 // Action 10: the masked relays take their state, the lowest bit channel 1.
-pub fn block(t: Tables, mask: u8, state: u8) -> Changed
-    ensures { λ r. ⌜ r ≡ blockOf mask state t ⌝ }
+pub fn block(board: &mut [[u64; 8]; ROWS], mask: u8, state: u8) -> Changed
+    ensures { λ r. ⌜ Makes (blockOf mask state (now (board .entry))) (now (board .exit)) r ⌝ }
 {
-    let inputs = t.inputs;
-    let relays = t.relays;
-    let mut after = tables::assemble(inputs, relays, t.clock);
     let mut changed = false;
     for k in 0..8 {
-        let was = after.relays[k];
-        let r = mask_relay(was, bit(mask, k), bit(state, k));
-        changed = either(changed, was.closed != r.closed);
-        after.relays[k] = r;
+        let moved = mask_relay(board, k + 1, bit(mask, k), bit(state, k));
+        changed = either(changed, moved);
     }
-    Changed {
-        answer: 1,
-        changed,
-        tables: after,
-    }
+    Changed { answer: 1, changed }
 }
 
 // One entry of a WriteDevices message for input k.
-pub fn write_input(t: Tables, k: u8, flags: u8, count: u32) -> Changed
-    ensures { λ r. ⌜ r ≡ writeInput k flags count t ⌝ }
+pub fn write_input(board: &mut [[u64; 8]; ROWS], k: u8, flags: u8, count: u32) -> Changed
+    ensures { λ r. ⌜ Makes (writeInput k flags count (now (board .entry))) (now (board .exit)) r ⌝ }
 {
     if 7 < flags {
-        return refuse(t);
+        return refuse();
     }
-    edit_input(t, k as u16, InputEdit::Write(flags, count))
+    edit_input(board, k as u16, InputEdit::Write(flags, count as u64))
 }
 
 // A flag is unknown, or a state that is written is above 1. A state whose flag is not set is not used.
@@ -294,11 +305,11 @@ fn relay_fails(flags: u8, state: u8) -> bool
 }
 
 // One entry of a WriteDevices message for relay k.
-pub fn write_relay(t: Tables, k: u8, flags: u8, state: u8) -> Changed
-    ensures { λ r. ⌜ r ≡ writeRelay k flags state t ⌝ }
+pub fn write_relay(board: &mut [[u64; 8]; ROWS], k: u8, flags: u8, state: u8) -> Changed
+    ensures { λ r. ⌜ Makes (writeRelay k flags state (now (board .entry))) (now (board .exit)) r ⌝ }
 {
     if relay_fails(flags, state) {
-        return refuse(t);
+        return refuse();
     }
-    edit_relay(t, k as u16, RelayEdit::Write(flags, state))
+    edit_relay(board, k as u16, RelayEdit::Write(flags, state))
 }

@@ -7,15 +7,20 @@
 --     box-determined     every machine that meets demand 3 answers as the box does
 --     box-untaken        what is not taken of a piece has no part in its answer
 -- Assumes nothing.
-use mathlib.Core.Path.{_≡_, refl}
+use mathlib.Core.Path.{_≡_, refl, sym, ap, _∙_}
+use mathlib.Core.Bool.{Bool, true, false, true≢false, cond}
 use mathlib.Core.List.{List, [], map}
 use mathlib.Core.Option.{none}
 use Prim.Native.Nat.{ℕ, zero, suc}
-use lib.ListN.{length, getD, take, replicate}
-use Rattle.framing.specs.Reading.{start}
+use native.Mathlib.Omega.{arith}
+use lib.ListN.{length, take, replicate}
+use Rattle.rows.specs.Rows.{lineIn, shutLine}
+use Rattle.rows.specs.Places.{Board, isConnection, rowAt, lineAt, onRows, linePlace, firstInput, firstRelay, rows}
+use Rattle.rows.proofs.Range.{beyond}
+use Rattle.plain.specs.Lines.{isOpen}
 use Rattle.board.specs.declared.Settings.{Settings}
 use Rattle.board.specs.PowerUp.{poweredUp}
-use Rattle.board.specs.Held.{halfAt}
+use Rattle.board.specs.Halves.{Halves}
 use Rattle.demand.specs.Plain.{messagesOf}
 use Rattle.demand.specs.Demand.{Call, bytes, feedsTo, Machine, schedule, log, final, trace, Demand3}
 use Rattle.demand.specs.Senders.{without, Steady, wires, quiet, OffersFirst, AllHeard, remaining, Handed, uncut, handing}
@@ -24,59 +29,65 @@ use Rattle.demand.proofs.Following.{determined, drains}
 use Rattle.demand.proofs.Apart.{apart, untaken-unseen}
 use Rattle.demand.proofs.Pouring.{cut-anywhere}
 use Rattle.register.specs.Box.{served, Held, box, atPowerUp, refusalOf, ends, run, onlooker}
-use Rattle.register.proofs.Touching.{touched-open, message-touches}
+use Rattle.register.proofs.Touching.{message-touches}
 use Rattle.register.proofs.BoxLawful.{Sound, only-open, box-meets}
 
--- "all numbers are 0": nothing is half read
-pub blank-at : {A : Type 0} (n : ℕ) (x : A) (c : ℕ) → getD (replicate n x) c x ≡ x
-blank-at zero x c = refl
-blank-at (suc n) x zero = refl
-blank-at (suc n) x (suc c) = blank-at n x c
+-- 01, What the box holds, 5: at power-up every connection is shut, so that nothing is half read
+row-zero : (n i : ℕ) → lineIn (rowAt i (replicate n (replicate 8 0))) .isOpen ≡ false
+row-zero zero i = refl
+row-zero (suc n) zero = refl
+row-zero (suc n) (suc i) = row-zero n i
 
-nothing-half : (s : Settings) (c : ℕ) → halfAt c (poweredUp s) ≡ start
-unfolding poweredUp
-nothing-half s c = blank-at 4 start c
+all-shut : (s : Settings) (c : ℕ) → isOpen c (poweredUp s) ≡ false
+unfolding poweredUp lineAt
+all-shut s c = go (isConnection c)
+  where
+    behind-all : (b : Board) (f g : ℕ → List ℕ → List ℕ) → rowAt (linePlace c) (onRows firstRelay 8 f (onRows firstInput 8 g b)) ≡ rowAt (linePlace c) b
+    behind-all b f g = beyond firstRelay 8 (linePlace c) f (onRows firstInput 8 g b) (omega arith) ∙ beyond firstInput 8 (linePlace c) g b (omega arith)
+
+    go : (t : Bool) → cond t (lineIn (rowAt (linePlace c) (poweredUp s))) shutLine .isOpen ≡ false
+    go true = ap (λ (row : List ℕ). lineIn row .isOpen) (behind-all (replicate rows (replicate 8 0)) _ _) ∙ row-zero rows (linePlace c)
+    go false = refl
 
 -- only events open and shut connections
 pub box-steady : Steady served
 box-steady =
     record {
       only-open = only-open;
-      same-open = λ p c g d. touched-open c _ _ (message-touches c p g) d;
-      same-refusal = λ p c g d room. rw (touched-open c _ _ (message-touches c p g) d);
+      same-open = λ p c g d. message-touches c g p .as-open d;
+      same-refusal = λ p c g d room. rw (message-touches c g p .as-open d);
     }
 
-module _ (s : Settings) (rooms : List ℕ) (long : length rooms ≡ 4096) where
-  sound-up : Sound (atPowerUp s rooms)
-  unfolding poweredUp
-  sound-up = record { four-lines = refl; four-halves = refl; four-rooms = long }
+module _ (s : Settings) (hs : Halves) (rooms : List ℕ) (four : length hs ≡ 4) (long : length rooms ≡ 4096) where
+  sound-up : Sound (atPowerUp s hs rooms)
+  sound-up = record { four-halves = four; four-rooms = long }
 
-  pub box-demand-3 : (calls : List (Call served)) → Demand3 served box (atPowerUp s rooms) calls
-  box-demand-3 = box-meets (atPowerUp s rooms) sound-up (λ c o. nothing-half s c)
+  pub box-demand-3 : (calls : List (Call served)) → Demand3 served box (atPowerUp s hs rooms) calls
+  box-demand-3 = box-meets (atPowerUp s hs rooms) sound-up (λ c o. absurd (true≢false (sym o ∙ all-shut s c)))
 
-  pub box-senders : (calls : List (Call served)) → OffersFirst served (quiet served (onlooker s rooms)) (run s rooms calls)
-      → (c : ℕ) → AllHeard served (wires served (quiet served (onlooker s rooms)) (run s rooms calls)) c
-  box-senders calls = senders served (onlooker s rooms) (λ c. refl) (run s rooms calls)
+  pub box-senders : (calls : List (Call served)) → OffersFirst served (quiet served (onlooker s hs rooms)) (run s hs rooms calls)
+      → (c : ℕ) → AllHeard served (wires served (quiet served (onlooker s hs rooms)) (run s hs rooms calls)) c
+  box-senders calls = senders served (onlooker s hs rooms) (λ c. refl) (run s hs rooms calls)
 
-  pub box-drains : (before : List (Call served)) (c room : ℕ) (piece : List ℕ) → refusalOf (ends s rooms before .board .plain) c room ≡ none
-      → remaining served box (length piece) (ends s rooms before) c room piece ≡ []
-  box-drains = drains served box box-steady (atPowerUp s rooms) box-demand-3
+  pub box-drains : (before : List (Call served)) (c room : ℕ) (piece : List ℕ) → refusalOf (ends s hs rooms before .board) c room ≡ none
+      → remaining served box (length piece) (ends s hs rooms before) c room piece ≡ []
+  box-drains = drains served box box-steady (atPowerUp s hs rooms) box-demand-3
 
-  pub box-apart : (d : ℕ) (calls : List (Call served)) → messagesOf served d (schedule served (onlooker s rooms) (run s rooms calls)) ≡ []
-      → (run s rooms (without (feedsTo served d) calls) ≡ without (λ a. feedsTo served d (a .0)) (run s rooms calls))
-      × (ends s rooms (without (feedsTo served d) calls) .board .plain ≡ ends s rooms calls .board .plain)
-  box-apart d = apart served d box (atPowerUp s rooms) box-demand-3
+  pub box-apart : (d : ℕ) (calls : List (Call served)) → messagesOf served d (schedule served (onlooker s hs rooms) (run s hs rooms calls)) ≡ []
+      → (run s hs rooms (without (feedsTo served d) calls) ≡ without (λ a. feedsTo served d (a .0)) (run s hs rooms calls))
+      × (ends s hs rooms (without (feedsTo served d) calls) .board ≡ ends s hs rooms calls .board)
+  box-apart d = apart served d box (atPowerUp s hs rooms) box-demand-3
 
-  pub box-cut-anywhere : (hs hs′ : List (Handed served)) → map (uncut served) hs ≡ map (uncut served) hs′
-      → (ends s rooms (handing served box (atPowerUp s rooms) hs) .board .plain ≡ ends s rooms (handing served box (atPowerUp s rooms) hs′) .board .plain)
-      × (log served (run s rooms (handing served box (atPowerUp s rooms) hs)) ≡ log served (run s rooms (handing served box (atPowerUp s rooms) hs′)))
-  box-cut-anywhere = cut-anywhere served box-steady box (atPowerUp s rooms) box-demand-3
+  pub box-cut-anywhere : (xs ys : List (Handed served)) → map (uncut served) xs ≡ map (uncut served) ys
+      → (ends s hs rooms (handing served box (atPowerUp s hs rooms) xs) .board ≡ ends s hs rooms (handing served box (atPowerUp s hs rooms) ys) .board)
+      × (log served (run s hs rooms (handing served box (atPowerUp s hs rooms) xs)) ≡ log served (run s hs rooms (handing served box (atPowerUp s hs rooms) ys)))
+  box-cut-anywhere = cut-anywhere served box-steady box (atPowerUp s hs rooms) box-demand-3
 
-  pub box-determined : (M : Machine served) (x : M .State) (calls : List (Call served)) → M .tables x ≡ poweredUp s .plain → Demand3 served M x calls
-      → (trace served M x calls ≡ run s rooms calls) × (M .tables (final served M x calls) ≡ ends s rooms calls .board .plain)
-  box-determined M x calls e D = determined served M box x (atPowerUp s rooms) calls e D (box-demand-3 calls)
+  pub box-determined : (M : Machine served) (x : M .State) (calls : List (Call served)) → M .tables x ≡ poweredUp s → Demand3 served M x calls
+      → (trace served M x calls ≡ run s hs rooms calls) × (M .tables (final served M x calls) ≡ ends s hs rooms calls .board)
+  box-determined M x calls e D = determined served M box x (atPowerUp s hs rooms) calls e D (box-demand-3 calls)
 
   pub box-untaken : (before : List (Call served)) (c room : ℕ) (piece : List ℕ)
-      → (let y : Held = ends s rooms before in
+      → (let y : Held = ends s hs rooms before in
       box .call y (bytes c room (take (box .call y (bytes c room piece) .1 .taken) piece)) .1 ≡ box .call y (bytes c room piece) .1)
-  box-untaken = untaken-unseen served box (atPowerUp s rooms) box-demand-3
+  box-untaken = untaken-unseen served box (atPowerUp s hs rooms) box-demand-3

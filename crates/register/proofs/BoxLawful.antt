@@ -8,20 +8,21 @@ use native.Mathlib.Omega.{arith}
 use borrow.Author.Tests.{eqb-true}
 use lib.Dec.{eqb}
 use lib.ListN.{length}
-use lib.Seq.{getD-set-same}
 use Rattle.laws.proofs.Tests.{by-cases}
 use Rattle.framing.specs.Cut.{Got}
 use Rattle.framing.specs.Reading.{start, Run, gotOf, halfAfter}
 use Rattle.framing.proofs.Turns.{length-run}
-use Rattle.plain.specs.declared.Plain.{Plain}
+use Rattle.rows.specs.declared.Line.{Line}
+use Rattle.rows.specs.Places.{Board}
 use Rattle.plain.specs.Lines.{isOpen}
 use Rattle.plain.specs.Events as plain
 use Rattle.plain.specs.Events.{tooShort, connected, closed}
 use Rattle.serving.specs.Serving.{servedMessage}
 use Rattle.plain.proofs.Lines.{open-below}
-use Rattle.board.specs.Held.{halfAt}
+use Rattle.board.specs.Halves.{halfAt}
 use Rattle.board.specs.Rooms.{roomAt}
-use Rattle.board.specs.Calls.{answered, fed, levelCall, passCall, connectCall, closeCall, collectCall, bytesCall, roomsAfter}
+use Rattle.board.specs.Calls.{answered, fed, levelCall, passCall, connectCall, closeCall, collectCall, bytesCall, halvesAfter, roomsAfter}
+use Rattle.board.proofs.Keeping as keeping
 use Rattle.board.proofs.Rooms.{room-long, room-again}
 use Rattle.demand.specs.Plain.{OnlyOpen}
 use Rattle.demand.specs.Demand.{refused, did, Call, bytes, other, feedsTo, answer, Meets}
@@ -29,54 +30,40 @@ use Rattle.demand.specs.Lawful as lawful-spec
 use Rattle.demand.specs.Lawful.{Lawful, outside}
 use Rattle.demand.proofs.Meeting.{demand-3}
 use Rattle.register.specs.Box.{Event, level, pass, connect, close, collect, Reply, replyOf, refusing, refusalOf, served, Held, saying, boxCall, box}
-use Rattle.register.proofs.Touching.{touched-length, touched-open, level-touches, pass-touches, collect-touches}
+use Rattle.register.proofs.Touching.{unmarked-open, level-event, pass-event, collect-touches}
 use Rattle.register.proofs.Numbers.{Answering, message-judged, judged-answers}
-use Rattle.register.proofs.BoxCalls.{ready, feeds-effect, feeds-rooms, bytes-touches, bytes-halves, bytes-rooms, bytes-half-apart, bytes-room-apart, same-open, dropped-apart, dropped-length, connect-length, connect-apart, connect-keeps, connect-starts, close-length, close-shuts, close-apart}
+use Rattle.register.proofs.BoxCalls.{ready, feeds-effect, feeds-halves, feeds-rooms, bytes-touches, bytes-halves, bytes-rooms, bytes-half-apart, bytes-room-apart, dropped-apart, dropped-length, connect-apart, connect-keeps, connect-starts, close-shuts, close-apart}
 
 -- the lengths of the box's arrays
 pub record Sound (x : Held) : Type 0 where
-  pub four-lines : length (x .board .plain .lines) ≡ 4
-  pub four-halves : length (x .board .halves) ≡ 4
+  pub four-halves : length (x .halves) ≡ 4
   pub four-rooms : length (x .rooms) ≡ 4096
 
 abbrev after : Held → Call served → Held
 after x k = boxCall x k .0
 
 abbrev openAt : Held → ℕ → Bool
-openAt x c = isOpen c (x .board .plain .lines)
+openAt x c = isOpen c (x .board)
 
 -- the lengths stay
-sound-event : (x : Held) (e : Event) → Sound x → Sound (after x (other e))
-unfolding levelCall passCall connectCall closeCall collectCall
-sound-event x (level k v) S =
-    record { four-lines = touched-length 0 _ _ (level-touches 0 (x .board .plain) k v) ∙ S .four-lines; four-halves = S .four-halves; four-rooms = S .four-rooms }
-sound-event x (pass d) S =
-    record { four-lines = touched-length 0 _ _ (pass-touches 0 (x .board .plain) d) ∙ S .four-lines; four-halves = S .four-halves; four-rooms = S .four-rooms }
-sound-event x (connect c rank) S =
-    record { four-lines = connect-length c rank (x .board .plain) ∙ S .four-lines; four-halves = dropped-length c (connected c rank (x .board .plain) .answer) (x .board .halves) ∙ S .four-halves; four-rooms = S .four-rooms }
-sound-event x (close c) S =
-    record { four-lines = close-length c (x .board .plain) ∙ S .four-lines; four-halves = dropped-length c (closed c (x .board .plain) .answer) (x .board .halves) ∙ S .four-halves; four-rooms = S .four-rooms }
-sound-event x (collect c room) S =
-    record { four-lines = touched-length c _ _ (collect-touches c (x .board .plain) room) ∙ S .four-lines; four-halves = S .four-halves; four-rooms = S .four-rooms }
-
 stay-sound : (x : Held) (k : Call served) → Sound x → Sound (after x k)
 stay-sound x (bytes c room p) S =
-    record {
-      four-lines = touched-length c _ _ (bytes-touches c room p (x .board) (x .rooms)) ∙ S .four-lines;
-      four-halves = bytes-halves c room p (x .board) (x .rooms) ∙ S .four-halves;
-      four-rooms = bytes-rooms c room p (x .board) (x .rooms) ∙ S .four-rooms;
-    }
-stay-sound x (other e) S = sound-event x e S
+    record { four-halves = bytes-halves c room p (x .board) (x .halves) (x .rooms) ∙ S .four-halves; four-rooms = bytes-rooms c room p (x .board) (x .halves) (x .rooms) ∙ S .four-rooms }
+stay-sound x (other (level k v)) S = record { four-halves = S .four-halves; four-rooms = S .four-rooms }
+stay-sound x (other (pass d)) S = record { four-halves = S .four-halves; four-rooms = S .four-rooms }
+stay-sound x (other (connect c rank)) S = record { four-halves = dropped-length c (connected c rank (x .board) .answer) (x .halves) ∙ S .four-halves; four-rooms = S .four-rooms }
+stay-sound x (other (close c)) S = record { four-halves = dropped-length c (closed c (x .board) .answer) (x .halves) ∙ S .four-halves; four-rooms = S .four-rooms }
+stay-sound x (other (collect c room)) S = record { four-halves = S .four-halves; four-rooms = S .four-rooms }
 
 pub only-open : OnlyOpen served
 only-open p c room e = ready p c room e .0
 
 -- a refused piece changes nothing
-refuses : (x : Held) (c room : ℕ) (p : List ℕ) (a : Reply) → refusalOf (x .board .plain) c room ≡ some a → boxCall x (bytes c room p) ≡ (x, answer served 0 (refused a))
-unfolding bytesCall roomsAfter
-refuses x c room p a e = go (isOpen c (x .board .plain .lines)) (tooShort room) refl refl
+refuses : (x : Held) (c room : ℕ) (p : List ℕ) (a : Reply) → refusalOf (x .board) c room ≡ some a → boxCall x (bytes c room p) ≡ (x, answer served 0 (refused a))
+unfolding bytesCall halvesAfter roomsAfter
+refuses x c room p a e = go (isOpen c (x .board)) (tooShort room) refl refl
   where
-    go : (o t : Bool) → isOpen c (x .board .plain .lines) ≡ o → tooShort room ≡ t → boxCall x (bytes c room p) ≡ (x, answer served 0 (refused a))
+    go : (o t : Bool) → isOpen c (x .board) ≡ o → tooShort room ≡ t → boxCall x (bytes c room p) ≡ (x, answer served 0 (refused a))
     go true true u v = let f : some (refusing 4) ≡ some a = rw (u, v) at e in let g : refusing 4 ≡ a = cc in rw (u, v) (ap (λ r. (x, answer served 0 (refused r))) g)
     go true false u v = let f : none ≡ some a = rw (u, v) at e in let z : _≡_ {A = ℕ} 0 1 = cc in absurd (omega arith)
     go false t u v = let f : some (refusing 3) ≡ some a = rw u at e in let g : refusing 3 ≡ a = cc in rw u (ap (λ r. (x, answer served 0 (refused r))) g)
@@ -85,32 +72,32 @@ refuses x c room p a e = go (isOpen c (x .board .plain .lines)) (tooShort room) 
 says : (r : Reply) → Answering (r .number) → saying r ≡ did r
 says r a = rw (a .0, a .1)
 
-answered-says : (p : Plain) (c n : ℕ) (o : Option Got) → (answered c o p .plain, answer served n (saying (replyOf (answered c o p)))) ≡ lawful-spec.fed served p c n o
+answered-says : (p : Board) (c n : ℕ) (o : Option Got) → (answered c o p .board, answer served n (saying (replyOf (answered c o p)))) ≡ lawful-spec.fed served p c n o
 answered-says p c n none = refl
 answered-says p c n (some g) =
-    ap (λ s. (servedMessage c g p .plain, answer served n s)) (says (replyOf (servedMessage c g p)) (judged-answers p (servedMessage c g p) (message-judged p c g)))
+    ap (λ s. (servedMessage c g p .board, answer served n s)) (says (replyOf (servedMessage c g p)) (judged-answers p (servedMessage c g p) (message-judged p c g)))
 
-module _ (x : Held) (c room : ℕ) (p : List ℕ) (S : Sound x) (e : refusalOf (x .board .plain) c room ≡ none) where
+module _ (x : Held) (c room : ℕ) (p : List ℕ) (S : Sound x) (e : refusalOf (x .board) c room ≡ none) where
   abbrev ρ : Run
-  ρ = fed c p (x .board) (x .rooms)
+  ρ = fed c p (x .halves) (x .rooms)
 
   below : c < 4
-  below = open-below c (x .board .plain .lines) (ready (x .board .plain) c room e .0)
+  below = open-below c (x .board) (ready (x .board) c room e .0)
 
   room-size : length (ρ .room) ≡ 1024
-  room-size = length-run p 0 (halfAt c (x .board)) (roomAt c (x .rooms)) ∙ room-long c (x .rooms) below (omega (arith, S .four-rooms))
+  room-size = length-run p 0 (halfAt c (x .halves)) (roomAt c (x .rooms)) ∙ room-long c (x .rooms) below (omega (arith, S .four-rooms))
 
-  feeds : outside served box x (bytes c room p) ≡ lawful-spec.fed served (x .board .plain) c (ρ .fed .taken) (gotOf (ρ .room) (ρ .fed .outcome))
-  feeds = rw (feeds-effect c room p (x .board) (x .rooms) e) (answered-says (x .board .plain) c (ρ .fed .taken) (gotOf (ρ .room) (ρ .fed .outcome)))
+  feeds : outside served box x (bytes c room p) ≡ lawful-spec.fed served (x .board) c (ρ .fed .taken) (gotOf (ρ .room) (ρ .fed .outcome))
+  feeds = rw (feeds-effect c room p (x .board) (x .halves) (x .rooms) e) (answered-says (x .board) c (ρ .fed .taken) (gotOf (ρ .room) (ρ .fed .outcome)))
 
-  reads : (halfAt c (after x (bytes c room p) .board) ≡ halfAfter (ρ .fed .outcome)) × (roomAt c (after x (bytes c room p) .rooms) ≡ ρ .room)
+  reads : (halfAt c (after x (bytes c room p) .halves) ≡ halfAfter (ρ .fed .outcome)) × (roomAt c (after x (bytes c room p) .rooms) ≡ ρ .room)
   reads = (
-    rw (feeds-effect c room p (x .board) (x .rooms) e) (getD-set-same (x .board .halves) c (halfAfter (ρ .fed .outcome)) start (omega (arith, below, S .four-halves))),
-    rw (feeds-rooms c room p (x .board) (x .rooms) e) (room-again c (ρ .room) (x .rooms) below (omega (arith, S .four-rooms)) room-size),
+    rw (feeds-halves c room p (x .board) (x .halves) (x .rooms) e) (keeping.reads c p (x .halves) (x .rooms) below (S .four-halves)),
+    rw (feeds-rooms c room p (x .board) (x .halves) (x .rooms) e) (room-again c (ρ .room) (x .rooms) below (omega (arith, S .four-rooms)) room-size),
   )
 
 -- an event happens to the plain machine
-does : (x : Held) (e : Event) → outside served box x (other e) ≡ (served .happen (x .board .plain) e .0, answer served 0 (did (served .happen (x .board .plain) e .1)))
+does : (x : Held) (e : Event) → outside served box x (other e) ≡ (served .happen (x .board) e .0, answer served 0 (did (served .happen (x .board) e .1)))
 unfolding levelCall passCall connectCall closeCall collectCall
 does x (level k v) = refl
 does x (pass d) = refl
@@ -120,53 +107,53 @@ does x (collect c room) = refl
 
 -- a connection that stays open keeps what it has read
 abbrev Keeps : Held → Call served → ℕ → Type 0
-Keeps x k c = (halfAt c (after x k .board) ≡ halfAt c (x .board)) × (roomAt c (after x k .rooms) ≡ roomAt c (x .rooms))
+Keeps x k c = (halfAt c (after x k .halves) ≡ halfAt c (x .halves)) × (roomAt c (after x k .rooms) ≡ roomAt c (x .rooms))
 
 keeps-event : (x : Held) (e : Event) (c : ℕ) → openAt x c ≡ true → openAt (after x (other e)) c ≡ true → Keeps x (other e) c
 unfolding levelCall passCall connectCall closeCall collectCall
 keeps-event x (level k v) c u w = (refl, refl)
 keeps-event x (pass d) c u w = (refl, refl)
-keeps-event x (connect d rank) c u w = by-cases (eqb c d) same (λ n. (dropped-apart d c (connected d rank (x .board .plain) .answer) (x .board .halves) n, refl))
+keeps-event x (connect d rank) c u w = by-cases (eqb c d) same (λ n. (dropped-apart d c (connected d rank (x .board) .answer) (x .halves) n, refl))
   where
     same : eqb c d ≡ true → Keeps x (other (connect d rank)) c
-    same q = (rw (connect-keeps d rank (x .board .plain) (x .board .halves) (rw (eqb-true c d q) at u)), refl)
-keeps-event x (close d) c u w = by-cases (eqb c d) same (λ n. (dropped-apart d c (closed d (x .board .plain) .answer) (x .board .halves) n, refl))
+    same q = (rw (connect-keeps d rank (x .board) (x .halves) (rw (eqb-true c d q) at u)), refl)
+keeps-event x (close d) c u w = by-cases (eqb c d) same (λ n. (dropped-apart d c (closed d (x .board) .answer) (x .halves) n, refl))
   where
     same : eqb c d ≡ true → Keeps x (other (close d)) c
-    same q = absurd (true≢false (sym (rw (eqb-true c d q) at w) ∙ close-shuts d (x .board .plain)))
+    same q = absurd (true≢false (sym (rw (eqb-true c d q) at w) ∙ close-shuts d (x .board)))
 keeps-event x (collect d room) c u w = (refl, refl)
 
 keeps : (x : Held) (k : Call served) (c : ℕ) → feedsTo served c k ≡ false → openAt x c ≡ true → openAt (after x k) c ≡ true → Keeps x k c
-keeps x (bytes d room p) c n u w = (bytes-half-apart d room p (x .board) (x .rooms) c n, bytes-room-apart d room p (x .board) (x .rooms) c n)
+keeps x (bytes d room p) c n u w = (bytes-half-apart d room p (x .board) (x .halves) (x .rooms) c n, bytes-room-apart d room p (x .board) (x .halves) (x .rooms) c n)
 keeps x (other e) c n u w = keeps-event x e c u w
 
 -- one that is opened begins anew; nothing but an opening opens one
-opens-event : (x : Held) (e : Event) (c : ℕ) → openAt x c ≡ false → openAt (after x (other e)) c ≡ true → halfAt c (after x (other e) .board) ≡ start
+opens-event : (x : Held) (e : Event) (c : ℕ) → openAt x c ≡ false → openAt (after x (other e)) c ≡ true → halfAt c (after x (other e) .halves) ≡ start
 unfolding levelCall passCall connectCall closeCall collectCall
-opens-event x (level k v) c u w = absurd (true≢false (sym w ∙ touched-open 0 _ _ (level-touches 0 (x .board .plain) k v) c ∙ u))
-opens-event x (pass d) c u w = absurd (true≢false (sym w ∙ touched-open 0 _ _ (pass-touches 0 (x .board .plain) d) c ∙ u))
-opens-event x (connect d rank) c u w = by-cases (eqb c d) same (λ n. absurd (true≢false (sym w ∙ same-open c _ _ (connect-apart d rank (x .board .plain) c n) ∙ u)))
+opens-event x (level k v) c u w = absurd (true≢false (sym w ∙ unmarked-open (level-event k v (x .board)) c ∙ u))
+opens-event x (pass d) c u w = absurd (true≢false (sym w ∙ unmarked-open (pass-event d (x .board)) c ∙ u))
+opens-event x (connect d rank) c u w = by-cases (eqb c d) same (λ n. absurd (true≢false (sym w ∙ ap (λ (l : Line). l .isOpen) (connect-apart d rank (x .board) c n) ∙ u)))
   where
-    same : eqb c d ≡ true → halfAt c (after x (other (connect d rank)) .board) ≡ start
-    same q = rw (eqb-true c d q) (connect-starts d rank (x .board .plain) (x .board .halves) (rw (eqb-true c d q) at u) (rw (eqb-true c d q) at w))
-opens-event x (close d) c u w = by-cases (eqb c d) same (λ n. absurd (true≢false (sym w ∙ same-open c _ _ (close-apart d (x .board .plain) c n) ∙ u)))
+    same : eqb c d ≡ true → halfAt c (after x (other (connect d rank)) .halves) ≡ start
+    same q = rw (eqb-true c d q) (connect-starts d rank (x .board) (x .halves) (rw (eqb-true c d q) at u) (rw (eqb-true c d q) at w))
+opens-event x (close d) c u w = by-cases (eqb c d) same (λ n. absurd (true≢false (sym w ∙ ap (λ (l : Line). l .isOpen) (close-apart d (x .board) c n) ∙ u)))
   where
-    same : eqb c d ≡ true → halfAt c (after x (other (close d)) .board) ≡ start
-    same q = absurd (true≢false (sym (rw (eqb-true c d q) at w) ∙ close-shuts d (x .board .plain)))
-opens-event x (collect d room) c u w = absurd (true≢false (sym w ∙ touched-open d _ _ (collect-touches d (x .board .plain) room) c ∙ u))
+    same : eqb c d ≡ true → halfAt c (after x (other (close d)) .halves) ≡ start
+    same q = absurd (true≢false (sym (rw (eqb-true c d q) at w) ∙ close-shuts d (x .board)))
+opens-event x (collect d room) c u w = absurd (true≢false (sym w ∙ collect-touches d room (x .board) .as-open c ∙ u))
 
-opens : (x : Held) (k : Call served) (c : ℕ) → openAt x c ≡ false → openAt (after x k) c ≡ true → halfAt c (after x k .board) ≡ start
-opens x (bytes d room p) c u w = absurd (true≢false (sym w ∙ touched-open d _ _ (bytes-touches d room p (x .board) (x .rooms)) c ∙ u))
+opens : (x : Held) (k : Call served) (c : ℕ) → openAt x c ≡ false → openAt (after x k) c ≡ true → halfAt c (after x k .halves) ≡ start
+opens x (bytes d room p) c u w = absurd (true≢false (sym w ∙ bytes-touches d room p (x .board) (x .halves) (x .rooms) .as-open c ∙ u))
 opens x (other e) c u w = opens-event x e c u w
 
 pub lawful : Lawful served box
 lawful =
     record {
-      half = λ x c. halfAt c (x .board);
+      half = λ x c. halfAt c (x .halves);
       room = λ x c. roomAt c (x .rooms);
       Sound = Sound;
       sound = stay-sound;
-      wide = λ x c S o. room-long c (x .rooms) (open-below c (x .board .plain .lines) o) (omega (arith, S .four-rooms));
+      wide = λ x c S o. room-long c (x .rooms) (open-below c (x .board) o) (omega (arith, S .four-rooms));
       only-open = only-open;
       refuses = refuses;
       feeds = feeds;
@@ -177,6 +164,6 @@ lawful =
     }
 
 -- so demand 3 holds of it, from every state of the right lengths whose open connections have nothing half read
-pub box-meets : (x : Held) → Sound x → ((c : ℕ) → openAt x c ≡ true → halfAt c (x .board) ≡ start) → Meets served box x
+pub box-meets : (x : Held) → Sound x → ((c : ℕ) → openAt x c ≡ true → halfAt c (x .halves) ≡ start) → Meets served box x
 unfolding lawful
 box-meets = demand-3 served box lawful

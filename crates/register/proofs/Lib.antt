@@ -6,6 +6,7 @@ pub mod BoxCalls
 pub mod BoxLawful
 pub mod BoxDemand
 pub mod Laws
+pub mod Counts
 pub mod UniqueTables
 pub mod UniqueChanges
 pub mod UniquePlain

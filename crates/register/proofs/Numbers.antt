@@ -7,20 +7,17 @@ use mathlib.Core.List.{List}
 use Prim.Native.Nat.{ℕ}
 use lib.Dec.{eqb, ltb}
 use Rattle.framing.specs.Cut.{Got, keepAlive, stray, tooLong, frame}
-use Rattle.tables.specs.declared.Input.{Input}
-use Rattle.tables.specs.declared.Relay.{Relay}
-use Rattle.tables.specs.declared.Tables.{Tables}
-use Rattle.tables.specs.Held.{isChannel}
+use Rattle.rows.specs.declared.Input.{Input}
+use Rattle.rows.specs.declared.Relay.{Relay}
+use Rattle.rows.specs.Places.{Board, isChannel, lineAt}
 use Rattle.changes.specs.Answers as tables
 use Rattle.changes.specs.Answers.{onInput, onRelay}
-use Rattle.changes.specs.Levels.{told, levelOf}
+use Rattle.changes.specs.Levels.{told, hasLevel, levelOf}
 use Rattle.changes.specs.Commands.{blockOf}
 use Rattle.layouts.specs.declared.Order.{Order}
 use Rattle.layouts.specs.declared.Order.the-variants.{Refused, Clock, Monitor, Usage, MonitorOff, MonitorOn, SetClock, Close, Open, Toggle, ClearCount, ClearInputUsage, ClearRelayUsage, Block, Read, Write, Enumerate}
 use Rattle.orders.specs.Orders.{orderOf}
 use Rattle.orders.proofs.Orders.{Refusal, refusals}
-use Rattle.plain.specs.declared.Plain.{Plain}
-use Rattle.plain.specs.Lines.{lineAt}
 use Rattle.plain.specs.Marks.{marked}
 use Rattle.plain.specs.Events.{Did, refused, changedTo, leveled, sealing}
 use Rattle.serving.specs.Obeying.{monitorSet, clockTold, obeyed}
@@ -33,7 +30,7 @@ abbrev pub Answering : ℕ → Type 0
 Answering n = (eqb n 0 ≡ false) × (beforeBytes n ≡ false)
 
 -- served, or refused whole
-pub data Judged (p : Plain) : Did → Type 0 where
+pub data Judged (p : Board) : Did → Type 0 where
   serves : {d : Did} → d .answer ≡ 1 → Judged p d
   refuses : (n : ℕ) → Answering n → Judged p (refused n p)
 
@@ -42,28 +39,29 @@ refusal-answers n r =
     ⊎-elim (λ (e : n ≡ 8). rw e (refl, refl))
     (λ r. ⊎-elim (λ (e : n ≡ 9). rw e (refl, refl)) (λ r. ⊎-elim (λ (e : n ≡ 10). rw e (refl, refl)) (λ (e : n ≡ 11). rw e (refl, refl)) r) r) r
 
-module _ (p : Plain) where
+module _ (p : Board) where
   -- a change of the tables
-  asked : (channel changed : Bool) (after : Tables) → Judged p (changedTo (cond channel (tables.served changed after) (tables.refused (p .tables))) p)
+  asked : (channel changed : Bool) (after : Board) → Judged p (changedTo (cond channel (tables.served changed after) (tables.refused p)))
   unfolding marked
   asked true changed after = serves refl
   asked false changed after = refuses 11 (refl, refl)
 
-  on-input : (f : Input → Input) (k : ℕ) → Judged p (changedTo (onInput f k (p .tables)) p)
+  on-input : (f : Input → Input) (k : ℕ) → Judged p (changedTo (onInput f k p))
   unfolding onInput
   on-input f k = asked (isChannel k) _ _
 
-  on-relay : (f : Relay → Relay) (k : ℕ) → Judged p (changedTo (onRelay f k (p .tables)) p)
+  on-relay : (f : Relay → Relay) (k : ℕ) → Judged p (changedTo (onRelay f k p))
   unfolding onRelay
   on-relay f k = asked (isChannel k) _ _
 
   pub level-judged : (k v : ℕ) → Judged p (leveled k v p)
   unfolding leveled levelOf marked
-  level-judged k v = go (ltb 1 v)
+  level-judged k v = go (ltb 1 v) (hasLevel k (eqb v 1) p)
     where
-      go : (t : Bool) → Judged p (changedTo (cond t (tables.refused (p .tables)) (onInput (told (eqb v 1)) k (p .tables))) p)
-      go true = refuses 11 (refl, refl)
-      go false = on-input (told (eqb v 1)) k
+      go : (t u : Bool) → Judged p (changedTo (cond t (tables.refused p) (cond u (tables.served false p) (onInput (told (eqb v 1)) k p))))
+      go true u = refuses 11 (refl, refl)
+      go false true = serves refl
+      go false false = on-input (told (eqb v 1)) k
 
   module _ (c : ℕ) (s : List ℕ) where
     obeyed-judged : (o : Order) → ((n : ℕ) → o ≡ Refused n → Refusal n) → Judged p (obeyed c s o p)
@@ -101,6 +99,6 @@ module _ (p : Plain) where
       sealed d (refuses n a) = refuses n a
 
 -- so a message is always answered by a number of its own
-pub judged-answers : (p : Plain) (d : Did) → Judged p d → Answering (d .answer)
+pub judged-answers : (p : Board) (d : Did) → Judged p d → Answering (d .answer)
 judged-answers p d (serves e) = rw e (refl, refl)
 judged-answers p d (refuses n a) = a

@@ -1,122 +1,246 @@
--- How messages and events touch the connections: not at all, by marks, or one of them. Assumes nothing.
-use mathlib.Core.Path.{_≡_, refl, sym, ap, _∙_}
-use mathlib.Core.Bool.{Bool, true, false, cond, _&&_}
-use mathlib.Core.List.{List, [], _∷_, map}
-use Prim.Native.Nat.{ℕ, zero, suc}
+-- What events and messages leave of the connections, openings and closings aside.
+--     Unmarked    each connection is as it was, its mark aside: level-event, pass-event
+--     Touches     each is as open as it was, and each but the sender's as it was, its mark aside: collect-touches, message-touches
+-- Assumes nothing.
+use mathlib.Core.Path.{_≡_, refl, ap, _∙_}
+use mathlib.Core.Bool.{Bool, true, false, cond}
+use mathlib.Core.List.{List, [], _∷_}
+use Prim.Native.Nat.{ℕ, zero, suc, _+_, _-_, _≤_, _<_}
+use native.Mathlib.Omega.{arith}
 use borrow.Author.Tests.{eqb-false}
 use lib.Dec.{eqb, ltb}
-use lib.ListN.{length, getD, set, length-set, length-map}
-use lib.Seq.{getD-set-other, map-set-same}
+use lib.ListN.{set}
+use lib.Seq.{getD-set-other}
+use Rattle.laws.proofs.Tests.{by-cases}
 use Rattle.framing.specs.Cut.{Got, keepAlive, stray, tooLong, frame}
-use Rattle.tables.specs.declared.Tables.{Tables}
 use Rattle.layouts.specs.declared.Order.{Order}
 use Rattle.layouts.specs.declared.Order.the-variants.{Refused, Clock, Monitor, Usage, MonitorOff, MonitorOn, SetClock, Close, Open, Toggle, ClearCount, ClearInputUsage, ClearRelayUsage, Block, Read, Write, Enumerate}
+use Rattle.rows.specs.declared.Input.{Input}
+use Rattle.rows.specs.declared.Relay.{Relay}
+use Rattle.rows.specs.declared.Line.{Line}
+use Rattle.rows.specs.Places.{Board, isChannel, isConnection, rowAt, inputAt, relayAt, lineAt, putInput, putRelay, putLine, clockSet, onRows, inputPlace, relayPlace, linePlace, firstInput, firstRelay, firstLine, clockRow}
+use Rattle.rows.specs.Rows.{isOn, word, lineIn, lineWords, shutLine}
+use Rattle.rows.proofs.Channel.{in-range}
+use Rattle.rows.proofs.Range.{beyond}
+use Rattle.rows.proofs.Views.{flag-again, line-again}
+use Rattle.tables.specs.declared.Device.{Device}
+use Rattle.tables.specs.declared.Device.the-variants.{Din, Rout, Unknown}
+use Rattle.tables.specs.Devices.{deviceOf}
+use Rattle.tables.specs.Time.{usagePassed, passed}
+use Rattle.changes.specs.Answers.{onInput, onRelay}
+use Rattle.changes.specs.Levels.{hasLevel, levelOf}
+use Rattle.changes.specs.Commands.{blockedRow, blockOf}
+use Rattle.changes.specs.Entries.{relayFails, writeInput, writeRelay}
+use Rattle.orders.specs.declared.Entry.{Entry}
+use Rattle.orders.specs.Entries.{entryOf}
 use Rattle.orders.specs.Orders.{orderOf}
-use Rattle.writes.specs.Writes.{writtenOf}
-use Rattle.plain.specs.declared.Line.{Line}
-use Rattle.plain.specs.declared.Plain.{Plain}
-use Rattle.plain.specs.Lines.{shutLine, withDue, withTables, lineAt, isOpen}
-use Rattle.plain.specs.Marks.{watches, markedLine, marked}
-use Rattle.plain.specs.Events.{Did, leveled, timePassed, monitorSent, collected}
+use Rattle.writes.specs.Writes.{Entered, inputSizeFits, relaySizeFits, deviceDone, soFar, entryNoted, writtenFrom}
+use Rattle.plain.specs.Lines.{withDue, isOpen}
+use Rattle.plain.specs.Marks.{watches, markedRow, marked}
+use Rattle.plain.specs.Events.{leveled, timePassed, monitorSent, collected}
 use Rattle.serving.specs.Obeying.{monitorSet, clockTold, obeyed}
 use Rattle.serving.specs.Serving.{servedContent, servedMessage}
 use Rattle.register.proofs.Cases.{frame-cases, collect-cases}
 
--- the connections after something that came from c: as they were, marked, or with another in c's place, which is as open as c was
-pub data Touched (c : ℕ) (ls : List Line) : List Line → Type 0 where
-  still : Touched c ls ls
-  marks : Touched c ls (map markedLine ls)
-  puts : (l : Line) → l .isOpen ≡ getD ls c shutLine .isOpen → Touched c ls (set ls c l)
+-- each connection is as it was, its mark aside
+pub record Unmarked (b b′ : Board) : Type 0 where
+  pub at : (d : ℕ) → withDue false (lineAt d b′) ≡ withDue false (lineAt d b)
 
--- a mark changes nothing but the mark
-mark-alone : (ls : List Line) (d : ℕ) → withDue false (getD (map markedLine ls) d shutLine) ≡ withDue false (getD ls d shutLine)
-unfolding markedLine
-mark-alone [] d = refl
-mark-alone (l ∷ ls) zero = go (watches l)
+same : (b : Board) → Unmarked b b
+same b = record { at = λ d. refl }
+
+then : {b b′ b″ : Board} → Unmarked b b′ → Unmarked b′ b″ → Unmarked b b″
+then e f = record { at = λ d. f .at d ∙ e .at d }
+
+-- what came from connection c leaves it as open as it was, and the others as they were, their marks aside
+pub record Touches (c : ℕ) (b b′ : Board) : Type 0 where
+  pub as-open : (d : ℕ) → isOpen d b′ ≡ isOpen d b
+  pub others : (d : ℕ) → eqb d c ≡ false → withDue false (lineAt d b′) ≡ withDue false (lineAt d b)
+
+pub unmarked-open : {b b′ : Board} → Unmarked b b′ → (d : ℕ) → isOpen d b′ ≡ isOpen d b
+unmarked-open e d = ap (λ (l : Line). l .isOpen) (e .at d)
+
+quiet : {c : ℕ} {b b′ : Board} → Unmarked b b′ → Touches c b b′
+quiet e = record { as-open = unmarked-open e; others = λ d n. e .at d }
+
+pub still : {c : ℕ} {b : Board} → Touches c b b
+still {b = b} = quiet (same b)
+
+-- ---- rows
+
+abbrev opened : List ℕ → Bool
+opened row = isOn (word 0 row)
+
+abbrev unmarked : List ℕ → Line
+unmarked row = withDue false (lineIn row)
+
+-- what a connection's row says is what is said of the connection
+by-rows : {A : Type 0} (g : Line → A) (b b′ : Board) → ((d : ℕ) → g (lineIn (rowAt (linePlace d) b′)) ≡ g (lineIn (rowAt (linePlace d) b)))
+    → (d : ℕ) → g (lineAt d b′) ≡ g (lineAt d b)
+unfolding lineAt
+by-rows g b b′ e d = go (isConnection d)
   where
-    go : (t : Bool) → withDue false (cond t (withDue true l) l) ≡ withDue false l
-    go true = refl
+    go : (t : Bool) → g (cond t (lineIn (rowAt (linePlace d) b′)) shutLine) ≡ g (cond t (lineIn (rowAt (linePlace d) b)) shutLine)
+    go true = e d
     go false = refl
-mark-alone (l ∷ ls) (suc d) = mark-alone ls d
 
--- an element of a mapped list
-getD-map : {A B : Type 0} (f : A → B) (xs : List A) (d : ℕ) (x : A) → getD (map f xs) d (f x) ≡ f (getD xs d x)
-getD-map f [] d x = refl
-getD-map f (y ∷ xs) zero x = refl
-getD-map f (y ∷ xs) (suc d) x = getD-map f xs d x
+-- it stays where each change of a row leaves it
+set-same-by : {A : Type 0} (g : List ℕ → A) (b : Board) (n j : ℕ) (r : List ℕ) → g r ≡ g (rowAt n b) → g (rowAt j (set b n r)) ≡ g (rowAt j b)
+set-same-by g [] n j r h = refl
+set-same-by g (row ∷ b) zero zero r h = h
+set-same-by g (row ∷ b) zero (suc j) r h = refl
+set-same-by g (row ∷ b) (suc n) zero r h = refl
+set-same-by g (row ∷ b) (suc n) (suc j) r h = set-same-by g b n j r h
 
-abbrev openness : Line → Bool
-openness l = l .isOpen
+rows-same-by : {A : Type 0} (g : List ℕ → A) (from n j : ℕ) (f : ℕ → List ℕ → List ℕ) (b : Board) → ((k : ℕ) (row : List ℕ) → g (f k row) ≡ g row)
+    → g (rowAt j (onRows from n f b)) ≡ g (rowAt j b)
+unfolding onRows
+rows-same-by g from n j f [] h = refl
+rows-same-by g zero zero j f (row ∷ b) h = refl
+rows-same-by g zero (suc n) zero f (row ∷ b) h = h 0 row
+rows-same-by g zero (suc n) (suc j) f (row ∷ b) h = rows-same-by g zero n j (λ k. f (suc k)) b (λ k. h (suc k))
+rows-same-by g (suc from) n zero f (row ∷ b) h = refl
+rows-same-by g (suc from) n (suc j) f (row ∷ b) h = rows-same-by g from n j f b h
 
-module _ (c : ℕ) (ls : List Line) where
-  pub touched-length : (ls′ : List Line) → Touched c ls ls′ → length ls′ ≡ length ls
-  touched-length ls′ still = refl
-  touched-length ls′ marks = length-map ls markedLine
-  touched-length ls′ (puts l e) = length-set ls c l
+store : (n : ℕ) (b : Board) (r : List ℕ) → n < firstLine → Unmarked b (set b n r)
+store n b r h = record { at = by-rows (withDue false) b (set b n r) (λ d. ap unmarked (getD-set-other b n (linePlace d) r [] (λ e. omega arith))) }
 
-  open-at : (ls′ : List Line) → Touched c ls ls′ → (d : ℕ) → getD ls′ d shutLine .isOpen ≡ getD ls d shutLine .isOpen
-  open-at ls′ still d = refl
-  open-at ls′ marks d = ap openness (mark-alone ls d)
-  open-at ls′ (puts l e) d =
-      sym (getD-map openness (set ls c l) d shutLine) ∙ ap (λ (bs : List Bool). getD bs d false) (map-set-same openness ls c l shutLine e) ∙ getD-map openness ls d shutLine
+change : (from n : ℕ) (f : ℕ → List ℕ → List ℕ) (b : Board) → from + n ≤ firstLine → Unmarked b (onRows from n f b)
+change from n f b h = record { at = by-rows (withDue false) b (onRows from n f b) (λ d. ap unmarked (beyond from n (linePlace d) f b (omega arith))) }
 
-  -- each connection is as open as it was
-  pub touched-open : (ls′ : List Line) → Touched c ls ls′ → (d : ℕ) → isOpen d ls′ ≡ isOpen d ls
-  unfolding isOpen
-  touched-open ls′ t d = ap (λ (b : Bool). ltb d 4 && b) (open-at ls′ t d)
+-- ---- records
 
-  -- and each but c is as it was, its mark aside
-  pub touched-other : (ls′ : List Line) → Touched c ls ls′ → (d : ℕ) → eqb d c ≡ false → withDue false (getD ls′ d shutLine) ≡ withDue false (getD ls d shutLine)
-  touched-other ls′ still d n = refl
-  touched-other ls′ marks d n = mark-alone ls d
-  touched-other ls′ (puts l e) d n = ap (withDue false) (getD-set-other ls c d l shutLine (eqb-false d c n))
+input-stays : (k : ℕ) (i : Input) (b : Board) → Unmarked b (putInput k i b)
+unfolding putInput
+input-stays k i b = by-cases (isChannel k) (λ h. rw h (store (inputPlace k) b _ (omega (arith, in-range k refl h)))) (λ h. rw h (same b))
 
-abbrev pub Touches : ℕ → Plain → Did → Type 0
-Touches c p d = Touched c (p .lines) (d .plain .lines)
+relay-stays : (k : ℕ) (r : Relay) (b : Board) → Unmarked b (putRelay k r b)
+unfolding putRelay
+relay-stays k r b = by-cases (isChannel k) (λ h. rw h (store (relayPlace k) b _ (omega (arith, in-range k refl h)))) (λ h. rw h (same b))
 
-module _ (c : ℕ) (p : Plain) where
-  marked-touches : (changed : Bool) (t : Tables) → Touched c (p .lines) (marked changed (withTables t p) .lines)
-  unfolding marked
-  marked-touches true t = marks
-  marked-touches false t = still
+line-open : (c : ℕ) (b : Board) → isConnection c ≡ true → lineAt c b .isOpen ≡ opened (rowAt (linePlace c) b)
+unfolding lineAt
+line-open c b h = ap (λ (t : Bool). cond t (lineIn (rowAt (linePlace c) b)) shutLine .isOpen) h
 
-  -- a message
-  obeyed-touches : (s : List ℕ) (o : Order) → Touches c p (obeyed c s o p)
-  unfolding obeyed monitorSet clockTold
-  obeyed-touches s (Refused n) = still
-  obeyed-touches s Clock = still
-  obeyed-touches s Monitor = still
-  obeyed-touches s Usage = still
-  obeyed-touches s MonitorOff = puts _ refl
-  obeyed-touches s MonitorOn = puts _ refl
-  obeyed-touches s (SetClock v) = still
-  obeyed-touches s (Close k) = marked-touches _ _
-  obeyed-touches s (Open k) = marked-touches _ _
-  obeyed-touches s (Toggle k) = marked-touches _ _
-  obeyed-touches s (ClearCount k) = marked-touches _ _
-  obeyed-touches s (ClearInputUsage k) = marked-touches _ _
-  obeyed-touches s (ClearRelayUsage k) = marked-touches _ _
-  obeyed-touches s (Block mask state) = marked-touches _ _
-  obeyed-touches s (Read n) = still
-  obeyed-touches s (Write n) = marked-touches (writtenOf s n (p .tables) .changed) (writtenOf s n (p .tables) .tables)
-  obeyed-touches s (Enumerate flags) = still
+-- a store to connection c leaves the others
+pub line-apart : (c d : ℕ) (l : Line) (b : Board) → eqb d c ≡ false → lineAt d (putLine c l b) ≡ lineAt d b
+unfolding lineAt putLine
+line-apart c d l b n =
+    by-cases (isConnection c)
+    (λ q. rw q (ap (λ (row : List ℕ). cond (isConnection d) (lineIn row) shutLine) (getD-set-other b (linePlace c) (linePlace d) (lineWords l) [] other)))
+    (λ q. rw q)
+  where
+    other : linePlace d ≡ linePlace c → ⊥
+    other e = eqb-false d c n (omega arith)
 
-  pub message-touches : (g : Got) → Touches c p (servedMessage c g p)
-  unfolding servedMessage servedContent
-  message-touches keepAlive = still
-  message-touches stray = still
-  message-touches tooLong = still
-  message-touches (frame sum s) = frame-cases c sum s p (Touches c p) (obeyed-touches s (orderOf s (lineAt c p .rank))) still
+-- another connection in c's place, which is as open as c was
+line-as-open : (c : ℕ) (l : Line) (b : Board) → l .isOpen ≡ lineAt c b .isOpen → (d : ℕ) → isOpen d (putLine c l b) ≡ isOpen d b
+unfolding putLine
+line-as-open c l b e d = by-cases (isConnection c) (λ h. rw h (by-rows (λ x. x .isOpen) b _ (row h) d)) (λ h. rw h)
+  where
+    row : isConnection c ≡ true → (d : ℕ) → opened (rowAt (linePlace d) (set b (linePlace c) (lineWords l))) ≡ opened (rowAt (linePlace d) b)
+    row h d = set-same-by opened b (linePlace c) (linePlace d) (lineWords l) (flag-again (l .isOpen) ∙ e ∙ line-open c b h)
 
-  -- the events that leave each connection as open as it was
-  pub level-touches : (k v : ℕ) → Touches c p (leveled k v p)
-  unfolding leveled
-  level-touches k v = marked-touches _ _
+line-touches : (c : ℕ) (l : Line) (b : Board) → l .isOpen ≡ lineAt c b .isOpen → Touches c b (putLine c l b)
+line-touches c l b e = record { as-open = line-as-open c l b e; others = λ d n. ap (withDue false) (line-apart c d l b n) }
 
-  pub pass-touches : (d : ℕ) → Touches c p (timePassed d p)
-  unfolding timePassed
-  pass-touches d = still
+clock-stays : (v : ℕ) (b : Board) → Unmarked b (clockSet v b)
+unfolding clockSet
+clock-stays v b = store clockRow b _ (omega arith)
 
-  pub collect-touches : (room : ℕ) → Touches c p (collected c room p)
-  unfolding monitorSent
-  collect-touches room = collect-cases c p room (Touches c p) still still still (λ v. puts _ refl)
+-- ---- changes
+
+on-input : (f : Input → Input) (k : ℕ) (b : Board) → Unmarked b (onInput f k b .board)
+unfolding onInput
+on-input f k b = by-cases (isChannel k) (λ h. rw h (input-stays k (f (inputAt k b)) b)) (λ h. rw h (same b))
+
+on-relay : (f : Relay → Relay) (k : ℕ) (b : Board) → Unmarked b (onRelay f k b .board)
+unfolding onRelay
+on-relay f k b = by-cases (isChannel k) (λ h. rw h (relay-stays k (f (relayAt k b)) b)) (λ h. rw h (same b))
+
+level-stays : (k v : ℕ) (b : Board) → Unmarked b (levelOf k v b .board)
+unfolding levelOf
+level-stays k v b =
+    by-cases (ltb 1 v) (λ h. rw h (same b)) (λ h. rw h (by-cases (hasLevel k (eqb v 1) b) (λ q. rw q (same b)) (λ q. rw q (on-input _ k b))))
+
+device-stays : (d : Device) (e : Entry) (b : Board) → Unmarked b (deviceDone d e b .board)
+unfolding deviceDone writeInput writeRelay
+device-stays (Din k) e b =
+    by-cases (inputSizeFits (e .size) (e .flags))
+    (λ h. rw h (by-cases (ltb 7 (e .flags)) (λ q. rw q (same b)) (λ q. rw q (on-input _ k b))))
+    (λ h. rw h (same b))
+device-stays (Rout k) e b =
+    by-cases (relaySizeFits (e .size) (e .flags))
+    (λ h. rw h (by-cases (relayFails (e .flags) (e .state)) (λ q. rw q (same b)) (λ q. rw q (on-relay _ k b))))
+    (λ h. rw h (same b))
+device-stays Unknown e b = same b
+
+written-stays : (content : List ℕ) (at n : ℕ) (w : Entered) → Unmarked (w .board) (writtenFrom content at n w .board)
+unfolding writtenFrom
+written-stays content at zero w = same (w .board)
+written-stays content at (suc n) w =
+    then (device-stays (deviceOf (entryOf content at .id)) (entryOf content at) (w .board))
+    (written-stays content (entryOf content at .next) n (entryNoted content at w))
+
+mark-alone : (row : List ℕ) → unmarked (markedRow row) ≡ unmarked row
+unfolding markedRow
+mark-alone row = by-cases (watches (lineIn row)) (λ h. rw h (ap (withDue false) (line-again (withDue true (lineIn row))))) (λ h. rw h)
+
+marked-stays : (changed : Bool) (b : Board) → Unmarked b (marked changed b)
+unfolding marked
+marked-stays true b =
+    record { at = by-rows (withDue false) b _ (λ d. rows-same-by unmarked firstLine 4 (linePlace d) (λ _. markedRow) b (λ k. mark-alone)) }
+marked-stays false b = same b
+
+-- a change, and the marks that follow
+follows : (changed : Bool) (b b′ : Board) → Unmarked b b′ → Unmarked b (marked changed b′)
+follows changed b b′ e = then e (marked-stays changed b′)
+
+-- ---- events
+
+pub level-event : (k v : ℕ) (b : Board) → Unmarked b (leveled k v b .board)
+unfolding leveled
+level-event k v b = follows (levelOf k v b .changed) b (levelOf k v b .board) (level-stays k v b)
+
+pub pass-event : (d : ℕ) (b : Board) → Unmarked b (timePassed d b .board)
+unfolding timePassed passed
+pass-event d b =
+    let n : ℕ = clockRow - firstInput in
+    then (change firstInput n (λ _. usagePassed d) b (omega arith)) (clock-stays _ (onRows firstInput n (λ _. usagePassed d) b))
+
+pub collect-touches : (c room : ℕ) (b : Board) → Touches c b (collected c room b .board)
+unfolding monitorSent
+collect-touches c room b = collect-cases c b room (λ d. Touches c b (d .board)) still still still (λ v. line-touches c _ b refl)
+
+-- ---- messages
+
+-- a change that a message makes
+makes : {c : ℕ} (changed : Bool) (b b′ : Board) → Unmarked b b′ → Touches c b (marked changed b′)
+makes changed b b′ e = quiet (follows changed b b′ e)
+
+obeyed-touches : (c : ℕ) (s : List ℕ) (o : Order) (b : Board) → Touches c b (obeyed c s o b .board)
+unfolding obeyed monitorSet clockTold blockOf
+obeyed-touches c s (Refused n) b = still
+obeyed-touches c s Clock b = still
+obeyed-touches c s Monitor b = still
+obeyed-touches c s Usage b = still
+obeyed-touches c s MonitorOff b = line-touches c _ b refl
+obeyed-touches c s MonitorOn b = line-touches c _ b refl
+obeyed-touches c s (SetClock v) b = quiet (clock-stays v b)
+obeyed-touches c s (Close k) b = makes _ b _ (on-relay _ k b)
+obeyed-touches c s (Open k) b = makes _ b _ (on-relay _ k b)
+obeyed-touches c s (Toggle k) b = makes _ b _ (on-relay _ k b)
+obeyed-touches c s (ClearCount k) b = makes _ b _ (on-input _ k b)
+obeyed-touches c s (ClearInputUsage k) b = makes _ b _ (on-input _ k b)
+obeyed-touches c s (ClearRelayUsage k) b = makes _ b _ (on-relay _ k b)
+obeyed-touches c s (Block mask state) b = makes _ b _ (change firstRelay 8 (blockedRow mask state) b (omega arith))
+obeyed-touches c s (Read n) b = still
+obeyed-touches c s (Write n) b = makes _ b _ (written-stays s 3 n (soFar b 0 false))
+obeyed-touches c s (Enumerate flags) b = still
+
+pub message-touches : (c : ℕ) (g : Got) (b : Board) → Touches c b (servedMessage c g b .board)
+unfolding servedMessage servedContent
+message-touches c keepAlive b = still
+message-touches c stray b = still
+message-touches c tooLong b = still
+message-touches c (frame sum s) b = frame-cases c sum s b (λ d. Touches c b (d .board)) (obeyed-touches c s (orderOf s (lineAt c b .rank)) b) still

@@ -1,10 +1,7 @@
--- For one input, two answers that a contract of the crate board allows are equal, and so is what is left in each lent slice. Assumes nothing.
+-- For one input, two answers that a contract of the crate board allows are equal, and so is what is left of what was lent. Assumes nothing.
 use mathlib.Core.Path.{_≡_, sym, _∙_}
-use mathlib.Core.List.{List}
-use Prim.Native.Nat.{ℕ}
 use denote.Ref.{now}
-use Rattle.board.specs.declared.Done.{Done}
-use Rattle.board.specs.Calls.{Effect, Answers}
+use Rattle.board.proofs.Same.{ends, answers, halved}
 use Rattle.board.proofs.power_up.Reads as power-up
 use Rattle.board.proofs.level.Reads as level
 use Rattle.board.proofs.pass.Reads as pass
@@ -13,26 +10,25 @@ use Rattle.board.proofs.close.Reads as close
 use Rattle.board.proofs.collect.Reads as collect
 use Rattle.board.proofs.bytes.Reads as bytes
 
-same : {e : Effect} {o₀ o o′ : List ℕ} {r r′ : Done} → Answers e o₀ o r → Answers e o₀ o′ r′ → (r ≡ r′) × (o ≡ o′)
-same p q = (p .gives ∙ sym (q .gives), p .leaves ∙ sym (q .leaves))
-
-pub unique-board-power-up : (κs : _) (a : _) (r r′ : _) (s s′ : _) → power-up.Post κs a r s → power-up.Post κs a r′ s′ → r ≡ r′
+pub unique-board-power-up : (κs : _) (a : _) (r r′ : _) (s s′ : _) → power-up.Post κs a r s → power-up.Post κs a r′ s′ → now (s .0) ≡ now (s′ .0)
 unique-board-power-up κs a r r′ s s′ p q = p ∙ sym q
 
-pub unique-board-level : (κs : _) (a : _) (r r′ : _) (s s′ : _) → level.Post κs a r s → level.Post κs a r′ s′ → r ≡ r′
-unique-board-level κs a r r′ s s′ p q = p ∙ sym q
+pub unique-board-level : (κs : _) (a : _) (r r′ : _) (s s′ : _) → level.Post κs a r s → level.Post κs a r′ s′ → (r ≡ r′) × (now (s .0) ≡ now (s′ .0))
+unique-board-level κs a r r′ s s′ p q = ends p q
 
-pub unique-board-pass : (κs : _) (a : _) (r r′ : _) (s s′ : _) → pass.Post κs a r s → pass.Post κs a r′ s′ → r ≡ r′
-unique-board-pass κs a r r′ s s′ p q = p ∙ sym q
+pub unique-board-pass : (κs : _) (a : _) (r r′ : _) (s s′ : _) → pass.Post κs a r s → pass.Post κs a r′ s′ → (r ≡ r′) × (now (s .0) ≡ now (s′ .0))
+unique-board-pass κs a r r′ s s′ p q = ends p q
 
-pub unique-board-connect : (κs : _) (a : _) (r r′ : _) (s s′ : _) → connect.Post κs a r s → connect.Post κs a r′ s′ → r ≡ r′
-unique-board-connect κs a r r′ s s′ p q = p ∙ sym q
+pub unique-board-connect : (κs : _) (a : _) (r r′ : _) (s s′ : _) → connect.Post κs a r s → connect.Post κs a r′ s′ → (r ≡ r′) × (now (s .0) ≡ now (s′ .0)) × (now (s .1 .0) ≡ now (s′ .1 .0))
+unique-board-connect κs a r r′ s s′ p q = halved (a .1 .1 .0) (now (a .1 .0)) p q
 
-pub unique-board-close : (κs : _) (a : _) (r r′ : _) (s s′ : _) → close.Post κs a r s → close.Post κs a r′ s′ → r ≡ r′
-unique-board-close κs a r r′ s s′ p q = p ∙ sym q
+pub unique-board-close : (κs : _) (a : _) (r r′ : _) (s s′ : _) → close.Post κs a r s → close.Post κs a r′ s′ → (r ≡ r′) × (now (s .0) ≡ now (s′ .0)) × (now (s .1 .0) ≡ now (s′ .1 .0))
+unique-board-close κs a r r′ s s′ p q = halved (a .1 .1 .0) (now (a .1 .0)) p q
 
-pub unique-board-collect : (κs : _) (a : _) (r r′ : _) (s s′ : _) → collect.Post κs a r s → collect.Post κs a r′ s′ → (r ≡ r′) × (now (s .1 .1 .0) ≡ now (s′ .1 .1 .0))
-unique-board-collect κs a r r′ s s′ p q = same p q
+pub unique-board-collect : (κs : _) (a : _) (r r′ : _) (s s′ : _) → collect.Post κs a r s → collect.Post κs a r′ s′ → (r ≡ r′) × (now (s .0) ≡ now (s′ .0)) × (now (s .1 .1 .0) ≡ now (s′ .1 .1 .0))
+unique-board-collect κs a r r′ s s′ p q = answers p q
 
-pub unique-board-bytes : (κs : _) (a : _) (r r′ : _) (s s′ : _) → bytes.Post κs a r s → bytes.Post κs a r′ s′ → (r ≡ r′) × (now (s .1 .1 .1 .1 .0) ≡ now (s′ .1 .1 .1 .1 .0)) × (now (s .1 .0) ≡ now (s′ .1 .0))
-unique-board-bytes κs a r r′ s s′ p q = (same (p .0) (q .0) .0, same (p .0) (q .0) .1, p .1 ∙ sym (q .1))
+pub unique-board-bytes : (κs : _) (a : _) (r r′ : _) (s s′ : _) → bytes.Post κs a r s → bytes.Post κs a r′ s′ → (r ≡ r′) × (now (s .0) ≡ now (s′ .0)) × (now (s .1 .0) ≡ now (s′ .1 .0)) × (now (s .1 .1 .0) ≡ now (s′ .1 .1 .0)) × (now (s .1 .1 .1 .1 .1 .0) ≡ now (s′ .1 .1 .1 .1 .1 .0))
+unique-board-bytes κs a r r′ s s′ p q =
+    let same = answers (p .0) (q .0) in
+    (same .0, same .1, p .1 .0 ∙ sym (q .1 .0), p .1 .1 ∙ sym (q .1 .1), same .2)

@@ -1,26 +1,15 @@
--- For one input, two answers that a contract of the crate tables allows are equal. Assumes nothing.
+-- For one input, two answers that a contract of the crate tables allows are equal, and so are the boards after them. Assumes nothing.
 use mathlib.Core.Path.{_≡_, sym, _∙_}
-use Rattle.tables.proofs.assemble.Reads as assemble
-use Rattle.tables.proofs.is_channel.Reads as is-channel
+use denote.Ref.{now}
 use Rattle.tables.proofs.pass.Reads as pass
-use Rattle.tables.proofs.set_clock.Reads as set-clock
 use Rattle.tables.proofs.alarm_state.Reads as alarm-state
 use Rattle.tables.proofs.count_alarm.Reads as count-alarm
 use Rattle.tables.proofs.usage_alarm.Reads as usage-alarm
 use Rattle.tables.proofs.device_of.Reads as device-of
 use Rattle.tables.proofs.id_of.Reads as id-of
 
-pub unique-tables-assemble : (κs : _) (a : _) (r r′ : _) (s s′ : _) → assemble.Post κs a r s → assemble.Post κs a r′ s′ → r ≡ r′
-unique-tables-assemble κs a r r′ s s′ p q = p .0 ∙ sym (q .0)
-
-pub unique-tables-is-channel : (κs : _) (a : _) (r r′ : _) (s s′ : _) → is-channel.Post κs a r s → is-channel.Post κs a r′ s′ → r ≡ r′
-unique-tables-is-channel κs a r r′ s s′ p q = p ∙ sym q
-
-pub unique-tables-pass : (κs : _) (a : _) (r r′ : _) (s s′ : _) → pass.Post κs a r s → pass.Post κs a r′ s′ → r ≡ r′
+pub unique-tables-pass : (κs : _) (a : _) (r r′ : _) (s s′ : _) → pass.Post κs a r s → pass.Post κs a r′ s′ → now (s .0) ≡ now (s′ .0)
 unique-tables-pass κs a r r′ s s′ p q = p ∙ sym q
-
-pub unique-tables-set-clock : (κs : _) (a : _) (r r′ : _) (s s′ : _) → set-clock.Post κs a r s → set-clock.Post κs a r′ s′ → r ≡ r′
-unique-tables-set-clock κs a r r′ s s′ p q = p ∙ sym q
 
 pub unique-tables-alarm-state : (κs : _) (a : _) (r r′ : _) (s s′ : _) → alarm-state.Post κs a r s → alarm-state.Post κs a r′ s′ → r ≡ r′
 unique-tables-alarm-state κs a r r′ s s′ p q = p ∙ sym q

@@ -6,15 +6,15 @@ use mathlib.Core.Option.{Option, none, some}
 use Prim.Native.Nat.{ℕ}
 use lib.Dec.{eqb}
 use lib.ListN.{take}
-use Rattle.plain.specs.declared.Plain.{Plain}
 use Rattle.plain.specs.Lines.{isOpen}
 use Rattle.plain.specs.Events.{Did, tooShort, leveled, timePassed, connected, closed, collected}
 use Rattle.serving.specs.Serving.{servedMessage}
-use Rattle.board.specs.declared.Board.{Board}
+use Rattle.rows.specs.Places.{Board}
+use Rattle.board.specs.Halves.{Halves}
 use Rattle.board.specs.declared.Done.{Done}
 use Rattle.board.specs.declared.Settings.{Settings}
 use Rattle.board.specs.PowerUp.{poweredUp}
-use Rattle.board.specs.Calls.{Effect, doneOf, levelCall, passCall, connectCall, closeCall, collectCall, bytesCall, roomsAfter}
+use Rattle.board.specs.Calls.{Effect, doneOf, levelCall, passCall, connectCall, closeCall, collectCall, bytesCall, dropped, halvesAfter, roomsAfter}
 use Rattle.demand.specs.Plain.{Serving}
 use Rattle.demand.specs.Demand.{Said, waits, refused, did, Call, bytes, other, Answer, answer, Machine, Trace, View, final, trace, begins}
 
@@ -42,11 +42,11 @@ abbrev pub refusing : ℕ → Reply
 refusing n = reply n []
 
 -- 3 "connection not 0 to 3, or not open", then 4 "reply buffer under 4,096"; room is its length
-abbrev pub refusalOf : Plain → ℕ → ℕ → Option Reply
-refusalOf p c room = cond (isOpen c (p .lines)) (cond (tooShort room) (some (refusing 4)) none) (some (refusing 3))
+abbrev pub refusalOf : Board → ℕ → ℕ → Option Reply
+refusalOf p c room = cond (isOpen c p) (cond (tooShort room) (some (refusing 4)) none) (some (refusing 3))
 
 -- what each event does to the plain machine
-abbrev pub happens : Event → Plain → Did
+abbrev pub happens : Event → Board → Did
 happens (level k v) = leveled k v
 happens (pass d) = timePassed d
 happens (connect c rank) = connected c rank
@@ -61,29 +61,30 @@ collector (connect c rank) = none
 collector (close c) = none
 collector (collect c room) = some c
 
--- THE PLAIN MACHINE of the box: it holds the tables and the connections, and serves whole messages by demand 2
+-- THE PLAIN MACHINE of the box: its tables are the lent board, all of it, and it serves whole messages by demand 2
 abbrev pub served : Serving
 served =
     record {
-      Tables = Plain;
+      Tables = Board;
       Event = Event;
       Lent = ℕ;
       Reply = Reply;
       limit = 1024;
-      isOpen = λ p c. isOpen c (p .lines);
+      isOpen = λ p c. isOpen c p;
       refusal = refusalOf;
-      serve = λ p c g. (servedMessage c g p .plain, replyOf (servedMessage c g p));
-      happen = λ p e. (happens e p .plain, replyOf (happens e p));
+      serve = λ p c g. (servedMessage c g p .board, replyOf (servedMessage c g p));
+      happen = λ p e. (happens e p .board, replyOf (happens e p));
       replyTo = collector;
     }
 
--- THE BOX, as its host has it: the Board that every call hands back, and the rooms that the host lends
+-- THE BOX, as its host has it: all that the host lends, the same in every call and altered by nobody else
 pub record Held : Type 0 where
   pub board : Board
+  pub halves : Halves
   pub rooms : List ℕ
 
-abbrev pub held : Board → List ℕ → Held
-held b rs = record { board = b; rooms = rs }
+abbrev pub held : Board → Halves → List ℕ → Held
+held b hs rs = record { board = b; halves = hs; rooms = rs }
 
 -- what each event's entry point comes to
 abbrev pub eventCall : Event → Board → Effect
@@ -103,12 +104,21 @@ saying r = cond (eqb (r .number) 0) waits (cond (beforeBytes (r .number)) (refus
 
 -- what a call comes to, by the definition that its entry point's contract cites
 abbrev pub effectOf : Held → Call served → Effect
-effectOf x (bytes c room piece) = bytesCall c piece room (x .board) (x .rooms)
+effectOf x (bytes c room piece) = bytesCall c piece room (x .board) (x .halves) (x .rooms)
 effectOf x (other e) = eventCall e (x .board)
+
+-- the half-read messages after it: a piece, an opening and a closing touch them
+abbrev pub halvesOf : Held → Call served → Halves
+halvesOf x (bytes c room piece) = halvesAfter c piece room (x .board) (x .halves) (x .rooms)
+halvesOf x (other (level k v)) = x .halves
+halvesOf x (other (pass d)) = x .halves
+halvesOf x (other (connect c rank)) = dropped c (connected c rank (x .board) .answer) (x .halves)
+halvesOf x (other (close c)) = dropped c (closed c (x .board) .answer) (x .halves)
+halvesOf x (other (collect c room)) = x .halves
 
 -- the rooms after it: only a piece touches them
 abbrev pub roomsOf : Held → Call served → List ℕ
-roomsOf x (bytes c room piece) = roomsAfter c piece room (x .board) (x .rooms)
+roomsOf x (bytes c room piece) = roomsAfter c piece room (x .board) (x .halves) (x .rooms)
 roomsOf x (other e) = x .rooms
 
 -- every event is answered, refused or not
@@ -119,29 +129,29 @@ saidOf (other e) r = did r
 abbrev pub boxCall : Held → Call served → Held × Answer served
 boxCall x k =
     let e : Effect = effectOf x k in
-    (held (doneOf e .board) (roomsOf x k), answer served (doneOf e .taken) (saidOf k (replyOf (e .did))))
+    (held (e .did .board) (halvesOf x k) (roomsOf x k), answer served (doneOf e .taken) (saidOf k (replyOf (e .did))))
 
 abbrev pub box : Machine served
-box = record { State = Held; tables = λ x. x .board .plain; call = boxCall }
+box = record { State = Held; tables = λ x. x .board; call = boxCall }
 
--- the box at power-up, with rooms that the host lends
-abbrev pub atPowerUp : Settings → List ℕ → Held
-atPowerUp s rooms = held (poweredUp s) rooms
+-- the box at power-up, with the half-read messages and rooms that the host lends, whatever stands in them
+abbrev pub atPowerUp : Settings → Halves → List ℕ → Held
+atPowerUp s hs rooms = held (poweredUp s) hs rooms
 
 -- a run of it: where it ends, each call with its answer, and the onlooker's view when it begins
-abbrev pub ends : Settings → List ℕ → List (Call served) → Held
-ends s rooms calls = final served box (atPowerUp s rooms) calls
+abbrev pub ends : Settings → Halves → List ℕ → List (Call served) → Held
+ends s hs rooms calls = final served box (atPowerUp s hs rooms) calls
 
-abbrev pub run : Settings → List ℕ → List (Call served) → Trace served
-run s rooms calls = trace served box (atPowerUp s rooms) calls
+abbrev pub run : Settings → Halves → List ℕ → List (Call served) → Trace served
+run s hs rooms calls = trace served box (atPowerUp s hs rooms) calls
 
-abbrev pub onlooker : Settings → List ℕ → View served
-onlooker s rooms = begins served box (atPowerUp s rooms)
+abbrev pub onlooker : Settings → Halves → List ℕ → View served
+onlooker s hs rooms = begins served box (atPowerUp s hs rooms)
 
 -- what the host reads of a call: the number, and as many bytes of the reply buffer as the reply has; a call without a buffer has no reply
 abbrev pub readOf : Done → List ℕ → Reply
 readOf r buffer = reply (r .answer) (take (r .len) buffer)
 
--- so an entry point's answer, as a step of the box: the Board and the rooms after it, the bytes taken, and what it says
-abbrev pub stepOf : Done → List ℕ → Said Reply → Held × Answer served
-stepOf r rooms said = (held (r .board) rooms, answer served (r .taken) said)
+-- so an entry point's answer, as a step of the box: what was lent, after it, the bytes taken, and what it says
+abbrev pub stepOf : Board → Halves → List ℕ → Done → Said Reply → Held × Answer served
+stepOf b hs rooms r said = (held b hs rooms, answer served (r .taken) said)

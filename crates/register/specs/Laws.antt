@@ -2,13 +2,16 @@
 use mathlib.Core.Path.{_≡_}
 use mathlib.Core.Bool.{Bool, false}
 use mathlib.Core.List.{List, []}
-use Prim.Native.Nat.{ℕ}
+use Prim.Native.Nat.{ℕ, _≤_, _<_}
 use lib.Dec.{eqb}
+use lib.ListN.{getD}
 use Rattle.laws.specs.Put.{put}
 use Rattle.words.specs.Words.{numberAt}
-use Rattle.plain.specs.declared.Plain.{Plain}
-use Rattle.plain.specs.Lines.{withDue, lineAt}
-use Rattle.board.specs.Held.{halfAt}
+use Rattle.rows.specs.Rows.{word}
+use Rattle.framing.specs.Cut.{Got, keepAlive, stray, tooLong, frame}
+use Rattle.rows.specs.Places.{Board, clockRow, rowAt, inputAt, lineAt}
+use Rattle.plain.specs.Lines.{withDue}
+use Rattle.board.specs.Halves.{halfAt}
 use Rattle.board.specs.Rooms.{roomAt}
 use Rattle.board.specs.Calls.{Effect}
 use Rattle.demand.specs.Demand.{Call, bytes, other}
@@ -18,15 +21,14 @@ use Rattle.register.specs.Box.{Event, level, pass, connect, close, colle
 abbrev pub TypeSeven : List ℕ → Type 0
 TypeSeven content = numberAt content 0 1 ≡ 7
 
--- from the one state to the other the clock may have changed, and nothing else
-pub record ButClock (before after : Plain) : Type 0 where
-  pub inputs : after .tables .inputs ≡ before .tables .inputs
-  pub relays : after .tables .relays ≡ before .tables .relays
-  pub lines : after .lines ≡ before .lines
+-- from the one board to the other the clock may have changed, and nothing else: no other row, and no other word of the clock's own
+pub record ButClock (before after : Board) : Type 0 where
+  pub rows : (n : ℕ) → eqb n clockRow ≡ false → rowAt n after ≡ rowAt n before
+  pub words : (j : ℕ) → eqb j 0 ≡ false → word j (rowAt clockRow after) ≡ word j (rowAt clockRow before)
 
--- "Numbers 3 to 13 write no reply", and the plain machine is as it was; so every byte of a reply buffer stays
-pub record Untouched (before : Plain) (e : Effect) : Type 0 where
-  pub plain : e .did .plain ≡ before
+-- "Numbers 3 to 13 write no reply", and every word of the board is as it was; so every byte of a reply buffer stays
+pub record Untouched (before : Board) (e : Effect) : Type 0 where
+  pub board : e .did .board ≡ before
   pub silent : e .did .reply ≡ []
   pub buffer : (o : List ℕ) → put 0 (e .did .reply) o ≡ o
 
@@ -44,6 +46,20 @@ callOn d (other e) = eventOn d e
 
 -- connection d has what it had: its half-read message, its room, and its line but for the due mark
 pub record Kept (d : ℕ) (before after : Held) : Type 0 where
-  pub half : halfAt d (after .board) ≡ halfAt d (before .board)
+  pub half : halfAt d (after .halves) ≡ halfAt d (before .halves)
   pub room : roomAt d (after .rooms) ≡ roomAt d (before .rooms)
-  pub line : withDue false (lineAt d (after .board .plain)) ≡ withDue false (lineAt d (before .board .plain))
+  pub line : withDue false (lineAt d (after .board)) ≡ withDue false (lineAt d (before .board))
+
+-- 01, What the box holds, 1: no input's count is above 4294967295
+pub record CountsFit (b : Board) : Type 0 where
+  pub at : (k : ℕ) → inputAt k b .count ≤ 4294967295
+
+-- a message's content, and that it is made of bytes
+abbrev pub contentOf : Got → List ℕ
+contentOf keepAlive = []
+contentOf stray = []
+contentOf tooLong = []
+contentOf (frame sum content) = content
+
+abbrev pub InBytes : Got → Type 0
+InBytes g = (i : ℕ) → getD (contentOf g) i 0 < 256

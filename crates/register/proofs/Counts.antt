@@ -1,0 +1,240 @@
+-- The counts stay within 01's range, whatever events happen and whatever messages come: what the width of their word does not say.
+--     counts-at-power-up, counts-after-event, counts-after-message
+-- Assumes nothing.
+use mathlib.Core.Path.{_≡_, refl, sym, subst}
+use mathlib.Core.Bool.{Bool, true, false, cond, not, _&&_}
+use mathlib.Core.List.{List, [], _∷_}
+use Prim.Native.Nat.{ℕ, zero, suc, _+_, _-_, _≤_, _<_, min, zero-le}
+use native.Mathlib.Omega.{arith}
+use lib.Dec.{eqb, ltb}
+use lib.ListN.{getD, set, replicate}
+use lib.Seq.{getD-set-other}
+use Rattle.laws.proofs.Tests.{by-cases}
+use Rattle.words.proofs.Laws.{Bytes, number-lt}
+use Rattle.framing.specs.Cut.{Got, keepAlive, stray, tooLong, frame}
+use Rattle.layouts.specs.declared.Order.{Order}
+use Rattle.layouts.specs.declared.Order.the-variants.{Refused, Clock, Monitor, Usage, MonitorOff, MonitorOn, SetClock, Close, Open, Toggle, ClearCount, ClearInputUsage, ClearRelayUsage, Block, Read, Write, Enumerate}
+use Rattle.rows.specs.declared.Input.{Input}
+use Rattle.rows.specs.declared.Relay.{Relay}
+use Rattle.rows.specs.declared.Line.{Line}
+use Rattle.rows.specs.Rows.{isOn, word, lineIn, shutLine}
+use Rattle.rows.specs.Places.{Board, isChannel, isConnection, rowAt, inputAt, relayAt, putInput, putRelay, putLine, clockSet, onRows, inputPlace, relayPlace, linePlace, firstInput, firstRelay, firstLine, clockRow, rows, lineAt}
+use Rattle.rows.proofs.Channel.{in-range, channel}
+use Rattle.tables.specs.declared.Device.{Device}
+use Rattle.tables.specs.declared.Device.the-variants.{Din, Rout, Unknown}
+use Rattle.tables.specs.Bits.{hasFlag, bitOf}
+use Rattle.tables.specs.Devices.{deviceOf}
+use Rattle.tables.specs.Time.{grown, usagePassed, passed}
+use Rattle.changes.specs.Answers.{onInput, onRelay}
+use Rattle.changes.specs.Levels.{raised, told, hasLevel, levelOf}
+use Rattle.changes.specs.Commands.{blockedRow, blockOf}
+use Rattle.changes.specs.Entries.{countWritten, inputWritten, relayFails, writeInput, writeRelay}
+use Rattle.orders.specs.declared.Entry.{Entry}
+use Rattle.orders.specs.Entries.{entryOf}
+use Rattle.orders.specs.Orders.{orderOf}
+use Rattle.writes.specs.Writes.{Entered, inputSizeFits, relaySizeFits, deviceDone, soFar, entryNoted, writtenFrom}
+use Rattle.plain.specs.Lines.{openedLine}
+use Rattle.plain.specs.Marks.{watches, markedRow, marked}
+use Rattle.plain.specs.Events.{leveled, timePassed, monitorSent}
+use Rattle.serving.specs.Obeying.{monitorSet, clockTold, obeyed}
+use Rattle.serving.specs.Serving.{servedContent, servedMessage}
+use Rattle.board.specs.declared.Settings.{Settings}
+use Rattle.board.specs.PowerUp.{poweredUp}
+use Rattle.register.specs.Box.{Event, level, pass, connect, close, collect, happens}
+use Rattle.register.specs.Laws.{CountsFit, InBytes}
+use Rattle.register.proofs.Cases.{frame-cases, connect-cases, close-cases, collect-cases}
+
+abbrev most : ℕ
+most = 4294967295
+
+-- ---- what is written into the word that a count stands in
+
+flag-small : (b : Bool) → cond b 1 0 ≤ most
+flag-small true = omega arith
+flag-small false = omega arith
+
+raised-small : (before after : Bool) (n : ℕ) → n ≤ most → raised before after n ≤ most
+raised-small before after n h = go (not before && after)
+  where
+    go : (t : Bool) → cond t (min (n + 1) 4294967295) n ≤ most
+    go true = omega arith
+    go false = h
+
+written-small : (flags count was : ℕ) → count ≤ most → was ≤ most → countWritten flags count was ≤ most
+written-small flags count was h k = go (hasFlag flags 2) (hasFlag flags 1)
+  where
+    go : (t u : Bool) → cond t count (cond u 0 was) ≤ most
+    go true u = h
+    go false true = zero-le
+    go false false = k
+
+mark-small : (row : List ℕ) → word 2 row ≤ most → word 2 (markedRow row) ≤ most
+unfolding markedRow
+mark-small row h = by-cases (watches (lineIn row)) (λ q. rw q (flag-small (lineIn row .monitor))) (λ q. rw q h)
+
+block-small : (mask state k : ℕ) (row : List ℕ) → word 2 row ≤ most → word 2 (blockedRow mask state k row) ≤ most
+unfolding blockedRow
+block-small mask state k row h = by-cases (bitOf mask k) (λ q. rw q zero-le) (λ q. rw q h)
+
+usage-alone : (d : ℕ) (row : List ℕ) → word 2 row ≤ most → word 2 (usagePassed d row) ≤ most
+unfolding usagePassed
+usage-alone d row h =
+    by-cases (isOn (word 0 row)) (λ q. rw (q, getD-set-other row 5 2 (grown (word 5 row) d) 0 (λ e. omega arith)) h) (λ q. rw q h)
+
+-- the count of an input's row
+abbrev countIn : List ℕ → ℕ
+countIn row = word 2 row
+
+-- so of every row of an input, which is to say of every input
+record Fit (b : Board) : Type 0 where
+  pub row : (j : ℕ) → j < firstRelay → countIn (rowAt j b) ≤ most
+
+inputs-fit : {b : Board} → Fit b → CountsFit b
+unfolding inputAt
+inputs-fit {b} f = record { at = λ k. by-cases (isChannel k) (λ h. rw h (f .row (inputPlace k) (omega (arith, in-range k refl h)))) (λ h. rw h zero-le) }
+
+rows-fit : {b : Board} → CountsFit b → Fit b
+unfolding inputAt
+rows-fit {b} c = record { row = λ j h. subst (λ (i : ℕ). countIn (rowAt i b) ≤ most) {x = inputPlace (j + 1)} {y = j} (omega arith) (rw (channel j h) at (c .at (j + 1))) }
+
+-- ---- rows
+
+set-row : (b : Board) (n j : ℕ) (r : List ℕ) → countIn r ≤ most → countIn (rowAt j b) ≤ most → countIn (rowAt j (set b n r)) ≤ most
+set-row [] n j r h f = f
+set-row (row ∷ b) zero zero r h f = h
+set-row (row ∷ b) zero (suc j) r h f = f
+set-row (row ∷ b) (suc n) zero r h f = f
+set-row (row ∷ b) (suc n) (suc j) r h f = set-row b n j r h f
+
+on-rows : (from n j : ℕ) (f : ℕ → List ℕ → List ℕ) (b : Board) → ((k : ℕ) (row : List ℕ) → countIn row ≤ most → countIn (f k row) ≤ most)
+    → countIn (rowAt j b) ≤ most → countIn (rowAt j (onRows from n f b)) ≤ most
+unfolding onRows
+on-rows from n j f [] h e = e
+on-rows zero zero j f (row ∷ b) h e = e
+on-rows zero (suc n) zero f (row ∷ b) h e = h 0 row e
+on-rows zero (suc n) (suc j) f (row ∷ b) h e = on-rows zero n j (λ k. f (suc k)) b (λ k. h (suc k)) e
+on-rows (suc from) n zero f (row ∷ b) h e = e
+on-rows (suc from) n (suc j) f (row ∷ b) h e = on-rows from n j f b h e
+
+stores : (n : ℕ) (r : List ℕ) (b : Board) → countIn r ≤ most → Fit b → Fit (set b n r)
+stores n r b h f = record { row = λ j l. set-row b n j r h (f .row j l) }
+
+changes : (from n : ℕ) (f : ℕ → List ℕ → List ℕ) (b : Board) → ((k : ℕ) (row : List ℕ) → countIn row ≤ most → countIn (f k row) ≤ most) → Fit b → Fit (onRows from n f b)
+changes from n f b h e = record { row = λ j l. on-rows from n j f b h (e .row j l) }
+
+-- ---- records
+
+module _ (b : Board) (f : Fit b) where
+  input-fits : (k : ℕ) (i : Input) → i .count ≤ most → Fit (putInput k i b)
+  unfolding putInput
+  input-fits k i h = by-cases (isChannel k) (λ q. rw q (stores (inputPlace k) _ b h f)) (λ q. rw q f)
+
+  relay-fits : (k : ℕ) (r : Relay) → Fit (putRelay k r b)
+  unfolding putRelay
+  relay-fits k r = by-cases (isChannel k) (λ q. rw q (stores (relayPlace k) _ b zero-le f)) (λ q. rw q f)
+
+  line-fits : (c : ℕ) (l : Line) → Fit (putLine c l b)
+  unfolding putLine
+  line-fits c l = by-cases (isConnection c) (λ q. rw q (stores (linePlace c) _ b (flag-small (l .monitor)) f)) (λ q. rw q f)
+
+  clock-fits : (v : ℕ) → Fit (clockSet v b)
+  unfolding clockSet
+  clock-fits v = record { row = λ j l. subst (λ (row : List ℕ). countIn row ≤ most) (sym (getD-set-other b clockRow j _ [] (λ e. omega arith))) (f .row j l) }
+
+  -- ---- changes
+
+  on-input : (g : Input → Input) (k : ℕ) → (inputAt k b .count ≤ most → g (inputAt k b) .count ≤ most) → Fit (onInput g k b .board)
+  unfolding onInput
+  on-input g k h = by-cases (isChannel k) (λ q. rw q (input-fits k (g (inputAt k b)) (h (inputs-fit f .at k)))) (λ q. rw q f)
+
+  on-relay : (g : Relay → Relay) (k : ℕ) → Fit (onRelay g k b .board)
+  unfolding onRelay
+  on-relay g k = by-cases (isChannel k) (λ q. rw q (relay-fits k (g (relayAt k b)))) (λ q. rw q f)
+
+  level-fits : (k v : ℕ) → Fit (levelOf k v b .board)
+  unfolding levelOf told
+  level-fits k v =
+      by-cases (ltb 1 v) (λ h. rw h f)
+      (λ h. rw h (by-cases (hasLevel k (eqb v 1) b) (λ q. rw q f) (λ q. rw q (on-input (told (eqb v 1)) k (raised-small (inputAt k b .level) (eqb v 1) (inputAt k b .count))))))
+
+  device-fits : (d : Device) (e : Entry) → e .count ≤ most → Fit (deviceDone d e b .board)
+  unfolding deviceDone writeInput writeRelay inputWritten
+  device-fits (Din k) e h =
+      by-cases (inputSizeFits (e .size) (e .flags))
+      (λ p. rw p (by-cases (ltb 7 (e .flags)) (λ q. rw q f) (λ q. rw q (on-input (inputWritten (e .flags) (e .count)) k (written-small (e .flags) (e .count) (inputAt k b .count) h)))))
+      (λ p. rw p f)
+  device-fits (Rout k) e h =
+      by-cases (relaySizeFits (e .size) (e .flags))
+      (λ p. rw p (by-cases (relayFails (e .flags) (e .state)) (λ q. rw q f) (λ q. rw q (on-relay _ k))))
+      (λ p. rw p f)
+  device-fits Unknown e h = f
+
+  marks-fit : (changed : Bool) → Fit (marked changed b)
+  unfolding marked
+  marks-fit true = changes firstLine 4 (λ _. markedRow) b (λ k. mark-small) f
+  marks-fit false = f
+
+-- the entries of a WriteDevices message, whose counts have four bytes
+written-fits : (content : List ℕ) → Bytes content → (at n : ℕ) (w : Entered) → Fit (w .board) → Fit (writtenFrom content at n w .board)
+unfolding writtenFrom
+written-fits content h at zero w f = f
+written-fits content h at (suc n) w f =
+    let e : Entry = entryOf content at in
+    let small : e .count ≤ most = omega (arith, number-lt content (at + 11) 4 h) in
+    written-fits content h (e .next) n (entryNoted content at w) (device-fits (w .board) f (deviceOf (e .id)) e small)
+
+-- ---- events and messages
+
+event-fits : (e : Event) (b : Board) → Fit b → Fit (happens e b .board)
+unfolding leveled timePassed passed monitorSent
+event-fits (level k v) b f = marks-fit (levelOf k v b .board) (level-fits b f k v) (levelOf k v b .changed)
+event-fits (pass d) b f =
+    let n : ℕ = clockRow - firstInput in
+    clock-fits (onRows firstInput n (λ _. usagePassed d) b) (changes firstInput n (λ _. usagePassed d) b (λ k. usage-alone d) f) _
+event-fits (connect c rank) b f = connect-cases c b rank (λ d. Fit (d .board)) f f f (λ u. line-fits b f c (openedLine rank))
+event-fits (close c) b f = close-cases c b (λ d. Fit (d .board)) f (λ u. line-fits b f c shutLine)
+event-fits (collect c room) b f = collect-cases c b room (λ d. Fit (d .board)) f f f (λ v. line-fits b f c _)
+
+obeyed-fits : (c : ℕ) (s : List ℕ) → Bytes s → (o : Order) (b : Board) → Fit b → Fit (obeyed c s o b .board)
+unfolding obeyed monitorSet clockTold blockOf
+obeyed-fits c s h (Refused n) b f = f
+obeyed-fits c s h Clock b f = f
+obeyed-fits c s h Monitor b f = f
+obeyed-fits c s h Usage b f = f
+obeyed-fits c s h MonitorOff b f = line-fits b f c _
+obeyed-fits c s h MonitorOn b f = line-fits b f c _
+obeyed-fits c s h (SetClock v) b f = clock-fits b f v
+obeyed-fits c s h (Close k) b f = marks-fit _ (on-relay b f _ k) _
+obeyed-fits c s h (Open k) b f = marks-fit _ (on-relay b f _ k) _
+obeyed-fits c s h (Toggle k) b f = marks-fit _ (on-relay b f _ k) _
+obeyed-fits c s h (ClearCount k) b f = marks-fit _ (on-input b f _ k (λ q. zero-le)) _
+obeyed-fits c s h (ClearInputUsage k) b f = marks-fit _ (on-input b f _ k (λ q. q)) _
+obeyed-fits c s h (ClearRelayUsage k) b f = marks-fit _ (on-relay b f _ k) _
+obeyed-fits c s h (Block mask state) b f = marks-fit _ (changes firstRelay 8 (blockedRow mask state) b (λ k. block-small mask state k) f) _
+obeyed-fits c s h (Read n) b f = f
+obeyed-fits c s h (Write n) b f = marks-fit _ (written-fits s h 3 n (soFar b 0 false) f) _
+obeyed-fits c s h (Enumerate flags) b f = f
+
+message-fits : (c : ℕ) (g : Got) (b : Board) → InBytes g → Fit b → Fit (servedMessage c g b .board)
+unfolding servedMessage servedContent
+message-fits c keepAlive b h f = f
+message-fits c stray b h f = f
+message-fits c tooLong b h f = f
+message-fits c (frame sum s) b h f = frame-cases c sum s b (λ d. Fit (d .board)) (obeyed-fits c s h (orderOf s (lineAt c b .rank)) b f) f
+
+-- THE LAWS
+pub counts-at-power-up : (s : Settings) → CountsFit (poweredUp s)
+unfolding poweredUp
+counts-at-power-up s =
+    inputs-fit (changes firstRelay 8 _ _ (λ k row h. zero-le) (changes firstInput 8 _ _ (λ k row h. zero-le) (record { row = λ j l. rw (zeros rows j) zero-le })))
+  where
+    zeros : (n j : ℕ) → countIn (rowAt j (replicate n (replicate 8 0))) ≡ 0
+    zeros zero j = refl
+    zeros (suc n) zero = refl
+    zeros (suc n) (suc j) = zeros n j
+
+pub counts-after-event : (e : Event) (b : Board) → CountsFit b → CountsFit (happens e b .board)
+counts-after-event e b f = inputs-fit (event-fits e b (rows-fit f))
+
+pub counts-after-message : (c : ℕ) (g : Got) (b : Board) → InBytes g → CountsFit b → CountsFit (servedMessage c g b .board)
+counts-after-message c g b h f = inputs-fit (message-fits c g b h (rows-fit f))

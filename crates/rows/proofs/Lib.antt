@@ -1,0 +1,4 @@
+pub mod Channel
+pub mod Range
+pub mod Unique
+pub mod Views

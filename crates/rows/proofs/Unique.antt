@@ -1,0 +1,63 @@
+-- For one input, two answers that a contract allows are equal, and so are the boards after them. Assumes nothing.
+use mathlib.Core.Path.{_≡_, sym, _∙_}
+use denote.Ref.{now}
+use Rattle.rows.proofs.input_in.Reads as input-in
+use Rattle.rows.proofs.input_words.Reads as input-words
+use Rattle.rows.proofs.relay_in.Reads as relay-in
+use Rattle.rows.proofs.relay_words.Reads as relay-words
+use Rattle.rows.proofs.line_in.Reads as line-in
+use Rattle.rows.proofs.line_words.Reads as line-words
+use Rattle.rows.proofs.is_channel.Reads as is-channel
+use Rattle.rows.proofs.input_at.Reads as input-at
+use Rattle.rows.proofs.put_input.Reads as put-input
+use Rattle.rows.proofs.relay_at.Reads as relay-at
+use Rattle.rows.proofs.put_relay.Reads as put-relay
+use Rattle.rows.proofs.line_at.Reads as line-at
+use Rattle.rows.proofs.put_line.Reads as put-line
+use Rattle.rows.proofs.clock.Reads as clock
+use Rattle.rows.proofs.set_clock.Reads as set-clock
+
+pub unique-input-in : (κs : _) (a : _) (r r′ : _) (s s′ : _) → input-in.Post κs a r s → input-in.Post κs a r′ s′ → r ≡ r′
+unique-input-in κs a r r′ s s′ p q = p ∙ sym q
+
+pub unique-input-words : (κs : _) (a : _) (r r′ : _) (s s′ : _) → input-words.Post κs a r s → input-words.Post κs a r′ s′ → r ≡ r′
+unique-input-words κs a r r′ s s′ p q = p ∙ sym q
+
+pub unique-relay-in : (κs : _) (a : _) (r r′ : _) (s s′ : _) → relay-in.Post κs a r s → relay-in.Post κs a r′ s′ → r ≡ r′
+unique-relay-in κs a r r′ s s′ p q = p ∙ sym q
+
+pub unique-relay-words : (κs : _) (a : _) (r r′ : _) (s s′ : _) → relay-words.Post κs a r s → relay-words.Post κs a r′ s′ → r ≡ r′
+unique-relay-words κs a r r′ s s′ p q = p ∙ sym q
+
+pub unique-line-in : (κs : _) (a : _) (r r′ : _) (s s′ : _) → line-in.Post κs a r s → line-in.Post κs a r′ s′ → r ≡ r′
+unique-line-in κs a r r′ s s′ p q = p ∙ sym q
+
+pub unique-line-words : (κs : _) (a : _) (r r′ : _) (s s′ : _) → line-words.Post κs a r s → line-words.Post κs a r′ s′ → r ≡ r′
+unique-line-words κs a r r′ s s′ p q = p ∙ sym q
+
+pub unique-is-channel : (κs : _) (a : _) (r r′ : _) (s s′ : _) → is-channel.Post κs a r s → is-channel.Post κs a r′ s′ → r ≡ r′
+unique-is-channel κs a r r′ s s′ p q = p ∙ sym q
+
+pub unique-input-at : (κs : _) (a : _) (r r′ : _) (s s′ : _) → input-at.Post κs a r s → input-at.Post κs a r′ s′ → r ≡ r′
+unique-input-at κs a r r′ s s′ p q = p ∙ sym q
+
+pub unique-put-input : (κs : _) (a : _) (r r′ : _) (s s′ : _) → put-input.Post κs a r s → put-input.Post κs a r′ s′ → now (s .0) ≡ now (s′ .0)
+unique-put-input κs a r r′ s s′ p q = p ∙ sym q
+
+pub unique-relay-at : (κs : _) (a : _) (r r′ : _) (s s′ : _) → relay-at.Post κs a r s → relay-at.Post κs a r′ s′ → r ≡ r′
+unique-relay-at κs a r r′ s s′ p q = p ∙ sym q
+
+pub unique-put-relay : (κs : _) (a : _) (r r′ : _) (s s′ : _) → put-relay.Post κs a r s → put-relay.Post κs a r′ s′ → now (s .0) ≡ now (s′ .0)
+unique-put-relay κs a r r′ s s′ p q = p ∙ sym q
+
+pub unique-line-at : (κs : _) (a : _) (r r′ : _) (s s′ : _) → line-at.Post κs a r s → line-at.Post κs a r′ s′ → r ≡ r′
+unique-line-at κs a r r′ s s′ p q = p ∙ sym q
+
+pub unique-put-line : (κs : _) (a : _) (r r′ : _) (s s′ : _) → put-line.Post κs a r s → put-line.Post κs a r′ s′ → now (s .0) ≡ now (s′ .0)
+unique-put-line κs a r r′ s s′ p q = p ∙ sym q
+
+pub unique-clock : (κs : _) (a : _) (r r′ : _) (s s′ : _) → clock.Post κs a r s → clock.Post κs a r′ s′ → r ≡ r′
+unique-clock κs a r r′ s s′ p q = p ∙ sym q
+
+pub unique-set-clock : (κs : _) (a : _) (r r′ : _) (s s′ : _) → set-clock.Post κs a r s → set-clock.Post κs a r′ s′ → now (s .0) ≡ now (s′ .0)
+unique-set-clock κs a r r′ s s′ p q = p ∙ sym q

@@ -1,0 +1,54 @@
+-- A row of eight words and the record that it stands for. Any words at all stand for one. Assumes nothing.
+use mathlib.Core.Bool.{Bool, cond, not}
+use mathlib.Core.List.{List, [], _∷_}
+use Prim.Native.Nat.{ℕ}
+use lib.Dec.{eqb}
+use lib.ListN.{getD}
+use Rattle.rows.specs.declared.Input.{Input}
+use Rattle.rows.specs.declared.Relay.{Relay}
+use Rattle.rows.specs.declared.Line.{Line}
+
+-- word j of a row; one that is not there is 0
+abbrev pub word : ℕ → List ℕ → ℕ
+word j row = getD row j 0
+
+-- 0 is no, every other word yes
+abbrev pub isOn : ℕ → Bool
+isOn w = not (eqb w 0)
+
+-- written, yes is 1 and no is 0
+abbrev pub flagged : Bool → ℕ
+flagged b = cond b 1 0
+
+-- 01, What the box holds, 1: an input in its row, and the words of an input; the last word is kept free
+abbrev pub inputIn : List ℕ → Input
+inputIn w =
+    record { level = isOn (word 0 w); alarm = isOn (word 1 w); count = word 2 w; setpointOne = word 3 w; setpointTwo = word 4 w; usage = word 5 w; usageSetpoint = word 6 w }
+
+abbrev pub inputWords : Input → List ℕ
+inputWords i =
+    flagged (i .level) ∷ flagged (i .alarm) ∷ i .count ∷ i .setpointOne ∷ i .setpointTwo ∷ i .usage ∷ i .usageSetpoint ∷ 0 ∷ []
+
+-- 01, What the box holds, 2: a relay in its row, and the words of a relay; its state and usage stand where an input's level and usage do
+abbrev pub relayIn : List ℕ → Relay
+relayIn w = record { closed = isOn (word 0 w); usage = word 5 w; usageSetpoint = word 6 w }
+
+abbrev pub relayWords : Relay → List ℕ
+relayWords r = flagged (r .closed) ∷ 0 ∷ 0 ∷ 0 ∷ 0 ∷ r .usage ∷ r .usageSetpoint ∷ 0 ∷ []
+
+-- 01, What the box holds, 4: a connection in its row, without its half-read message, and its words
+abbrev pub lineIn : List ℕ → Line
+lineIn w = record { isOpen = isOn (word 0 w); rank = word 1 w; monitor = isOn (word 2 w); due = isOn (word 3 w) }
+
+abbrev pub lineWords : Line → List ℕ
+lineWords l = flagged (l .isOpen) ∷ l .rank ∷ flagged (l .monitor) ∷ flagged (l .due) ∷ 0 ∷ 0 ∷ 0 ∷ 0 ∷ []
+
+-- what stands for an input, relay or connection that the box does not have: all zero, as no words read
+abbrev pub blankInput : Input
+blankInput = inputIn []
+
+abbrev pub blankRelay : Relay
+blankRelay = relayIn []
+
+abbrev pub shutLine : Line
+shutLine = lineIn []

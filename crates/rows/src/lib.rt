@@ -1,0 +1,197 @@
+// The lent board: rows of eight words, and the record that each row stands for. Rows are read and written here.
+// Every function takes every board, nonsense words too, and every number: one that is no channel's, or no connection's, reads as blank,
+// and a store to it does nothing.
+
+ghost use mathlib.Core.Path.{_≡_};
+ghost use Rattle.rows.specs.Rows.{flagged, inputIn, inputWords, relayIn, relayWords, lineIn, lineWords};
+ghost use Rattle.rows.specs.Places.{isChannel, inputAt, putInput, relayAt, putRelay, lineAt, putLine, clockOf, clockSet};
+
+// The first row of each kind, and the number of rows: here alone, as in specs/Places; what comes new is appended.
+pub const FIRST_INPUT: usize = 0;
+
+pub const FIRST_RELAY: usize = 8;
+
+pub const CLOCK: usize = 16;
+
+pub const FIRST_LINE: usize = 17;
+
+pub const ROWS: usize = 21;
+
+// An input; alarm is its alarm switch.
+pub struct Input {
+    pub level: bool,
+    pub alarm: bool,
+    pub count: u64,
+    pub setpointOne: u64,
+    pub setpointTwo: u64,
+    pub usage: u64,
+    pub usageSetpoint: u64,
+}
+
+pub struct Relay {
+    pub closed: bool,
+    pub usage: u64,
+    pub usageSetpoint: u64,
+}
+
+// A connection, without its half-read message. A shut one is all zero.
+pub struct Line {
+    pub isOpen: bool,
+    pub rank: u64,
+    pub monitor: bool,
+    pub due: bool,
+}
+
+fn flag(b: bool) -> u64
+    ensures { λ r. ⌜ r ≡ flagged b ⌝ }
+{
+    if b { 1 } else { 0 }
+}
+
+// ---- a row and its record
+
+pub fn input_in(row: [u64; 8]) -> Input
+    ensures { λ r. ⌜ r ≡ inputIn row ⌝ }
+{
+    Input {
+        level: row[0] != 0,
+        alarm: row[1] != 0,
+        count: row[2],
+        setpointOne: row[3],
+        setpointTwo: row[4],
+        usage: row[5],
+        usageSetpoint: row[6],
+    }
+}
+
+pub fn input_words(i: Input) -> [u64; 8]
+    ensures { λ r. ⌜ r ≡ inputWords i ⌝ }
+{
+    [
+        flag(i.level),
+        flag(i.alarm),
+        i.count,
+        i.setpointOne,
+        i.setpointTwo,
+        i.usage,
+        i.usageSetpoint,
+        0,
+    ]
+}
+
+pub fn relay_in(row: [u64; 8]) -> Relay
+    ensures { λ r. ⌜ r ≡ relayIn row ⌝ }
+{
+    Relay {
+        closed: row[0] != 0,
+        usage: row[5],
+        usageSetpoint: row[6],
+    }
+}
+
+pub fn relay_words(r: Relay) -> [u64; 8]
+    ensures { λ w. ⌜ w ≡ relayWords r ⌝ }
+{
+    [flag(r.closed), 0, 0, 0, 0, r.usage, r.usageSetpoint, 0]
+}
+
+pub fn line_in(row: [u64; 8]) -> Line
+    ensures { λ r. ⌜ r ≡ lineIn row ⌝ }
+{
+    Line {
+        isOpen: row[0] != 0,
+        rank: row[1],
+        monitor: row[2] != 0,
+        due: row[3] != 0,
+    }
+}
+
+pub fn line_words(l: Line) -> [u64; 8]
+    ensures { λ w. ⌜ w ≡ lineWords l ⌝ }
+{
+    [
+        flag(l.isOpen),
+        l.rank,
+        flag(l.monitor),
+        flag(l.due),
+        0,
+        0,
+        0,
+        0,
+    ]
+}
+
+// ---- the rows of the board
+
+// The one place where a channel is judged.
+pub fn is_channel(k: usize) -> bool
+    ensures { λ r. ⌜ r ≡ isChannel k ⌝ }
+{
+    1 <= k && k <= 8
+}
+
+pub fn input_at(board: &[[u64; 8]; ROWS], k: usize) -> Input
+    ensures { λ r. ⌜ r ≡ inputAt k (now (board .entry)) ⌝ }
+{
+    if is_channel(k) {
+        let row = board[k - 1 + FIRST_INPUT];
+        return input_in(row);
+    }
+    input_in([0; 8])
+}
+
+pub fn put_input(board: &mut [[u64; 8]; ROWS], k: usize, i: Input)
+    ensures { λ u. ⌜ now (board .exit) ≡ putInput k i (now (board .entry)) ⌝ }
+{
+    if is_channel(k) {
+        board[k - 1 + FIRST_INPUT] = input_words(i);
+    }
+}
+
+pub fn relay_at(board: &[[u64; 8]; ROWS], k: usize) -> Relay
+    ensures { λ r. ⌜ r ≡ relayAt k (now (board .entry)) ⌝ }
+{
+    if is_channel(k) {
+        let row = board[k - 1 + FIRST_RELAY];
+        return relay_in(row);
+    }
+    relay_in([0; 8])
+}
+
+pub fn put_relay(board: &mut [[u64; 8]; ROWS], k: usize, r: Relay)
+    ensures { λ u. ⌜ now (board .exit) ≡ putRelay k r (now (board .entry)) ⌝ }
+{
+    if is_channel(k) {
+        board[k - 1 + FIRST_RELAY] = relay_words(r);
+    }
+}
+
+pub fn line_at(board: &[[u64; 8]; ROWS], c: usize) -> Line
+    ensures { λ r. ⌜ r ≡ lineAt c (now (board .entry)) ⌝ }
+{
+    if c < 4 {
+        let row = board[c + FIRST_LINE];
+        return line_in(row);
+    }
+    line_in([0; 8])
+}
+
+pub fn put_line(board: &mut [[u64; 8]; ROWS], c: usize, l: Line)
+    ensures { λ u. ⌜ now (board .exit) ≡ putLine c l (now (board .entry)) ⌝ }
+{
+    if c < 4 {
+        board[c + FIRST_LINE] = line_words(l);
+    }
+}
+
+pub fn clock(board: &[[u64; 8]; ROWS]) -> u64
+    ensures { λ r. ⌜ r ≡ clockOf (now (board .entry)) ⌝ }
+{
+    board[CLOCK][0]
+}
+
+pub fn set_clock(board: &mut [[u64; 8]; ROWS], v: u64)
+    ensures { λ u. ⌜ now (board .exit) ≡ clockSet v (now (board .entry)) ⌝ }
+{
+    board[CLOCK][0] = v;
+}
