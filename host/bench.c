@@ -4,12 +4,12 @@
  *
  * First each workload is done by both, and the two must agree in every sum, in the reply and in all that the box holds. Then it is
  * measured in rounds; in each both come once, and the one that comes first changes. A figure is the median of its rounds, in processor
- * time, so that what else the machine does weighs little. Last it measures a call of the library's form that does nothing: what handing the
- * board on by value takes, whatever is done with it.
+ * time, so that what else the machine does weighs little. Both boxes change what they hold in place.
+ *
+ * host/bench runs it too, also with rows added to the board, and measures the host that answers on the network.
  */
 #define _POSIX_C_SOURCE 200809L
 
-#include "bare.h"
 #include "frame.h"
 #include "workloads.h"
 
@@ -206,27 +206,17 @@ static workload_tally run(const workload_side *side, const row *r, size_t times)
     return side->does[r->which](r->bytes, r->n, r->step, times);
 }
 
-static bool same_input(const wellacorn_input *a, const wellacorn_input *b)
+/* Boards and halves are words alone, without padding: also those that nobody uses must be the same. */
+static bool same_held(void)
 {
-    return a->level == b->level && a->alarm == b->alarm && a->count == b->count && a->setpoint_one == b->setpoint_one &&
-           a->setpoint_two == b->setpoint_two && a->usage == b->usage && a->usage_setpoint == b->usage_setpoint;
-}
-
-static bool same_relay(const wellacorn_relay *a, const wellacorn_relay *b)
-{
-    return a->closed == b->closed && a->usage == b->usage && a->usage_setpoint == b->usage_setpoint;
-}
-
-/* Field by field: what the padding between them holds is nobody's promise. */
-static bool same_board(const wellacorn_board *a, const wellacorn_board *b)
-{
-    bool same = a->plain.tables.clock == b->plain.tables.clock;
-    for (int k = 0; k < WELLACORN_CHANNELS; k++) {
-        same &= same_input(&a->plain.tables.inputs[k], &b->plain.tables.inputs[k]);
-        same &= same_relay(&a->plain.tables.relays[k], &b->plain.tables.relays[k]);
+    wellacorn_board one = library_side.board();
+    wellacorn_board other = peer_side.board();
+    bool same = memcmp(&one, &other, sizeof one) == 0;
+    for (int c = 0; c < WELLACORN_CONNECTIONS; c++) {
+        wellacorn_half a = library_side.half(c);
+        wellacorn_half b = peer_side.half(c);
+        same &= memcmp(&a, &b, sizeof a) == 0;
     }
-    same &= memcmp(a->plain.lines, b->plain.lines, sizeof a->plain.lines) == 0;
-    same &= memcmp(a->halves, b->halves, sizeof a->halves) == 0;
     return same;
 }
 
@@ -237,9 +227,7 @@ static bool agree(const row *r)
     peer_side.fresh();
     workload_tally one = run(&library_side, r, 2);
     workload_tally other = run(&peer_side, r, 2);
-    wellacorn_board held = library_side.board();
-    wellacorn_board others = peer_side.board();
-    return one.answers == other.answers && one.taken == other.taken && one.len == other.len && same_board(&held, &others) &&
+    return one.answers == other.answers && one.taken == other.taken && one.len == other.len && same_held() &&
            memcmp(library_side.reply, peer_side.reply, WELLACORN_REPLY) == 0;
 }
 
@@ -304,32 +292,6 @@ static void measure(const row *r, size_t rounds, double *library, double *peer)
     fflush(stdout);
 }
 
-static double time_of_bare(size_t calls)
-{
-    wellacorn_done e = {0};
-    uint64_t answers = 0;
-    double start = seconds();
-    for (size_t i = 0; i < calls; i++) {
-        e = bare_pass(e.board, 1);
-        answers += e.answer;
-    }
-    double end = seconds();
-    sink += answers;
-    return end - start;
-}
-
-static void measure_bare(size_t rounds, double *times)
-{
-    size_t calls = EVENTS;
-    while (time_of_bare(calls) < LEAST) {
-        calls *= 2;
-    }
-    for (size_t i = 0; i < rounds; i++) {
-        times[i] = time_of_bare(calls);
-    }
-    printf("A call in C that only takes the board and gives it back, by value: %.0f a second.\n", (double)calls / median(times, rounds));
-}
-
 static size_t rounds_of(int argc, char **argv)
 {
     if (argc == 1) {
@@ -368,7 +330,6 @@ int main(int argc, char **argv)
     for (size_t i = 0; i < ROWS; i++) {
         measure(&rows[i], rounds, library, peer);
     }
-    measure_bare(rounds, library);
     free(library);
     free(peer);
     return EXIT_SUCCESS;

@@ -132,9 +132,9 @@ typedef struct {
 /* ---- What a call came to */
 
 typedef struct {
-    uint8_t answer;             /* the answer number */
     size_t taken;               /* bytes taken of the piece; an event and a collection take none */
     size_t len;                 /* the reply's length, its five header bytes included; 0 for no reply */
+    uint8_t answer;             /* the answer number */
 } wellacorn_done;
 
 /* ---- The calls */
@@ -270,9 +270,9 @@ WELLACORN_PLACE(wellacorn_settings, inputs, 0);
 WELLACORN_PLACE(wellacorn_settings, relays, 192);
 
 WELLACORN_SIZE(wellacorn_done, 24);
-WELLACORN_PLACE(wellacorn_done, answer, 0);
-WELLACORN_PLACE(wellacorn_done, taken, 8);
-WELLACORN_PLACE(wellacorn_done, len, 16);
+WELLACORN_PLACE(wellacorn_done, taken, 0);
+WELLACORN_PLACE(wellacorn_done, len, 8);
+WELLACORN_PLACE(wellacorn_done, answer, 16);
 
 #undef WELLACORN_ROW
 #undef WELLACORN_SIZE

@@ -29,7 +29,7 @@ use Rattle.serving.specs.Serving.{servedContent, servedMessage}
 use Rattle.board.specs.PowerUp.{poweredUp}
 use Rattle.board.specs.Halves.{halfAt, putHalf}
 use Rattle.board.specs.Calls.{levelCall, connectCall, collectCall, bytesCall, halvesAfter, roomsAfter}
-use Rattle.cases.specs.Starred.{Row, levelCases, blockCases, channelCases, messageCases, starredCases}
+use Rattle.cases.specs.Starred.{Row, countTop, toldAgain, blockCases, channelEdges, lengthCases, writeCases, starredCases}
 
 -- every row of them does what 01 owes
 record Holds (rs : List Row) : Type 0 where
@@ -42,21 +42,29 @@ map-both f (x ∷ xs) ys = ap (λ (l : List (List ℕ)). f x ∷ l) (map-both f 
 both : {xs ys : List Row} → Holds xs → Holds ys → Holds (xs ++ ys)
 both {xs} {ys} p q = record { rows = rw (map-both (λ (r : Row). r .does) xs ys, map-both (λ (r : Row). r .owes) xs ys, p .rows, q .rows) }
 
-level-cases : Holds levelCases
-unfolding levelCases inputAt putInput onInput told levelOf idOf firstWith deviceOf inputWritten writeInput fitsExactly judgeWrite writeOf deviceDone writtenFrom markedRow leveled monitorSent collected levelCall collectCall put fits numberAt stepOf firstOf afterOf roomOf runOf lineAt putLine onRows orderOf openedLine marked connected obeyed servedContent servedMessage poweredUp halfAt putHalf connectCall bytesCall halvesAfter roomsAfter
-level-cases = record { rows = refl }
+count-top : Holds countTop
+unfolding countTop  inputAt putInput onInput told levelOf idOf firstWith deviceOf inputWritten writeInput fitsExactly judgeWrite writeOf deviceDone writtenFrom markedRow leveled levelCall put fits numberAt stepOf firstOf afterOf roomOf runOf lineAt putLine onRows orderOf openedLine marked connected obeyed servedContent servedMessage poweredUp halfAt putHalf connectCall bytesCall halvesAfter roomsAfter
+count-top = record { rows = refl }
 
-block-cases : Holds blockCases
+told-again : Holds toldAgain
+unfolding toldAgain inputAt putInput onInput told levelOf markedRow leveled monitorSent collected levelCall collectCall lineAt putLine onRows openedLine marked connected poweredUp putHalf connectCall
+told-again = record { rows = refl }
+
+blocks : Holds blockCases
 unfolding blockCases anyBelow relayAt masked blockedRow blockOf onBlock judgeCommand commandOf relaysOf markedRow monitorSent collected collectCall put fits numberAt stepOf firstOf afterOf roomOf runOf lineAt putLine onRows orderOf openedLine marked connected obeyed servedContent servedMessage poweredUp halfAt putHalf connectCall bytesCall halvesAfter roomsAfter
-block-cases = record { rows = refl }
+blocks = record { rows = refl }
 
-channel-cases : Holds channelCases
-unfolding channelCases relayAt putRelay onRelay onChannel judgeCommand commandOf relaysOf markedRow put fits numberAt stepOf firstOf afterOf roomOf runOf lineAt putLine onRows orderOf openedLine marked connected obeyed servedContent servedMessage poweredUp halfAt putHalf connectCall bytesCall halvesAfter roomsAfter
-channel-cases = record { rows = refl }
+channels : Holds channelEdges
+unfolding channelEdges relayAt putRelay onRelay onChannel judgeCommand commandOf relaysOf markedRow put fits numberAt stepOf firstOf afterOf roomOf runOf lineAt putLine onRows orderOf openedLine marked connected obeyed servedContent servedMessage poweredUp halfAt putHalf connectCall bytesCall halvesAfter roomsAfter
+channels = record { rows = refl }
 
-message-cases : Holds messageCases
-unfolding messageCases rows chunks inputAt relayAt putInput alarmState countAlarm usageAlarm onInput idOf firstWith deviceOf inputWritten writeInput fitsExactly sizedRequest judgeRequest judgeRead judgeWrite requestOf readOf writeOf inputsOf relaysOf inputRow monitorReply inputBlock readings.blockOf entryOf idsIn devicesReply deviceDone writtenFrom monitorSent collected monitorSet collectCall put fits numberAt stepOf firstOf afterOf roomOf runOf lineAt putLine onRows orderOf openedLine marked connected obeyed servedContent servedMessage poweredUp halfAt putHalf connectCall bytesCall halvesAfter roomsAfter
-message-cases = record { rows = refl }
+lengths : Holds lengthCases
+unfolding lengthCases sizedRequest judgeRequest requestOf monitorSet put fits numberAt stepOf firstOf afterOf roomOf runOf lineAt putLine onRows orderOf openedLine marked connected obeyed servedContent servedMessage poweredUp halfAt putHalf connectCall bytesCall halvesAfter roomsAfter
+lengths = record { rows = refl }
+
+writes : Holds writeCases
+unfolding writeCases rows chunks inputAt relayAt putInput alarmState countAlarm usageAlarm onInput idOf firstWith deviceOf inputWritten writeInput fitsExactly judgeRead judgeWrite readOf writeOf inputsOf relaysOf inputRow monitorReply inputBlock readings.blockOf entryOf idsIn devicesReply deviceDone writtenFrom monitorSent collected collectCall put fits numberAt stepOf firstOf afterOf roomOf runOf lineAt putLine onRows orderOf openedLine marked connected obeyed servedContent servedMessage poweredUp halfAt putHalf connectCall bytesCall halvesAfter roomsAfter
+writes = record { rows = refl }
 
 pub starred : map (λ (r : Row). r .does) starredCases ≡ map (λ (r : Row). r .owes) starredCases
-starred = both (both (both level-cases block-cases) channel-cases) message-cases .rows
+starred = both (both (both (both (both count-top told-again) blocks) channels) lengths) writes .rows

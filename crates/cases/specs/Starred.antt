@@ -79,14 +79,14 @@ row does owes = record { does = does; owes = owes }
 
 -- THE STARRED CASES, in 01's order
 -- 01, Both sides of each edge, 1: a rise reaches the largest count, and stays there
-abbrev pub countTop : List Row
+unfoldable pub countTop : List Row
 countTop =
     row (count (writesInput 2 (0xFF ∷ 0xFF ∷ 0xFF ∷ 0xFE ∷ []) ∷ []) ∷ []) (4294967294 ∷ []) ∷
     row (count (writesInput 2 (0xFF ∷ 0xFF ∷ 0xFF ∷ 0xFE ∷ []) ∷ told 1 ∷ []) ∷ []) (4294967295 ∷ []) ∷
     row (count (writesInput 2 (0xFF ∷ 0xFF ∷ 0xFF ∷ 0xFE ∷ []) ∷ told 1 ∷ told 0 ∷ told 1 ∷ []) ∷ []) (4294967295 ∷ []) ∷ []
 
 -- 2: an input that is on, told on: neither count nor mark changes; what was not due stays so, and what was due stays so
-abbrev pub toldAgain : List Row
+unfoldable pub toldAgain : List Row
 toldAgain =
     row (count (told 1 ∷ collects ∷ []) ∷ due (told 1 ∷ collects ∷ []) ∷ []) (1 ∷ 0 ∷ []) ∷
     row (number (told 1 ∷ collects ∷ []) (told 1) ∷ count (told 1 ∷ collects ∷ told 1 ∷ []) ∷ due (told 1 ∷ collects ∷ told 1 ∷ []) ∷ []) (1 ∷ 1 ∷ 0 ∷ []) ∷
@@ -103,7 +103,7 @@ maskZero =
     row (number (collects ∷ []) (blockWith 0 255) ∷ due (collects ∷ blockWith 0 255 ∷ []) ∷ relays (blockWith 0 255 ∷ []) ∷ []) (1 ∷ 0 ∷ 0 ∷ []) ∷ []
 
 -- 5: channel 8 toggles; channels 9 and 0 are refused with 11
-abbrev pub channelEdges : List Row
+unfoldable pub channelEdges : List Row
 channelEdges =
     row (number [] (toggles 8) ∷ relays (toggles 8 ∷ []) ∷ relays (toggles 8 ∷ toggles 8 ∷ []) ∷ []) (1 ∷ 128 ∷ 0 ∷ []) ∷
     row (number [] (toggles 9) ∷ relays (toggles 9 ∷ []) ∷ []) (11 ∷ 0 ∷ []) ∷
@@ -131,18 +131,15 @@ setpointEdge =
     row (replyByte (writesInput 2 (0 ∷ 0 ∷ 0 ∷ 100 ∷ []) ∷ []) readsInput 24 ∷ replyByte (writesInput 2 (0 ∷ 0 ∷ 0 ∷ 100 ∷ []) ∷ []) collects 28 ∷ []) (0 ∷ 0 ∷ []) ∷
     row (replyByte (writesInput 2 (0 ∷ 0 ∷ 0 ∷ 101 ∷ []) ∷ []) readsInput 24 ∷ replyByte (writesInput 2 (0 ∷ 0 ∷ 0 ∷ 101 ∷ []) ∷ []) collects 28 ∷ []) (1 ∷ 1 ∷ []) ∷ []
 
--- in four parts, each of which is computed by itself; and all of them
-unfoldable pub levelCases : List Row
-levelCases = countTop ++ toldAgain
-
+-- all of them; what is named here is computed by itself
 unfoldable pub blockCases : List Row
 blockCases = maskedBlock ++ maskZero
 
-unfoldable pub channelCases : List Row
-channelCases = channelEdges
+unfoldable pub lengthCases : List Row
+lengthCases = emptyContent ++ requestLengths
 
-unfoldable pub messageCases : List Row
-messageCases = emptyContent ++ requestLengths ++ resetAndWrite ++ setpointEdge
+unfoldable pub writeCases : List Row
+writeCases = resetAndWrite ++ setpointEdge
 
 abbrev pub starredCases : List Row
-starredCases = levelCases ++ blockCases ++ channelCases ++ messageCases
+starredCases = countTop ++ toldAgain ++ blockCases ++ channelEdges ++ lengthCases ++ writeCases

@@ -9,13 +9,14 @@ use lib.Seq.{take-at}
 use Rattle.laws.specs.Put.{put}
 use Rattle.laws.proofs.Put.{length-put, put-front, put-none}
 use Rattle.plain.specs.Events.{refused}
-use Rattle.board.specs.declared.Board.{Board}
+use Rattle.rows.specs.Places.{Board}
 use Rattle.board.specs.declared.Done.{Done}
-use Rattle.board.specs.Calls.{Answers, still, doneOf, bytesCall, roomsAfter}
+use Rattle.board.specs.Halves.{Halves}
+use Rattle.board.specs.Calls.{Answers, still, doneOf, bytesCall, halvesAfter, roomsAfter}
 use Rattle.console.specs.declared.Parsed.{Parsed}
 use Rattle.console.specs.declared.Parsed.the-variants.{Bytes, Bad}
 use Rattle.console.specs.Digits.{parsed, told, bytesIn}
-use Rattle.console.specs.Lines.{offered, roomsOffered, lineCall, lineRooms}
+use Rattle.console.specs.Lines.{offered, halvesOffered, roomsOffered, lineCall, lineHalves, lineRooms}
 use Rattle.console.proofs.Reading.{told-bytes, told-bad, parsed-length}
 
 -- the first n bytes of the store are what the line holds
@@ -28,14 +29,19 @@ piece-parsed line store₀ store n r l e s q =
     let front = s ∙ put-front (bytesIn (parsed line)) store₀ (omega arith) in
     (omega (arith, t .1), t .0 ∙ ap some (sym (ap (take n) front ∙ take-at (bytesIn (parsed line)) _ n (sym (t .1)))))
 
-module _ (line rooms : List ℕ) (b : Board) {rooms′ reply reply′ : List ℕ} {r : Done} where
-  pub line-fed : (piece : List ℕ) → length reply ≡ 4096 → parsed line ≡ some piece
-      → Answers (bytesCall 0 piece (length reply) b rooms) reply reply′ r × (rooms′ ≡ roomsAfter 0 piece (length reply) b rooms)
-      → Answers (lineCall line b rooms) reply reply′ r × (rooms′ ≡ lineRooms line b rooms)
-  unfolding lineCall lineRooms offered roomsOffered
+-- what feeding a line answers and leaves
+abbrev pub FedLine : List ℕ → Board → Halves → List ℕ → List ℕ → Board → Halves → List ℕ → List ℕ → Done → Type 0
+FedLine line b hs rooms reply b′ hs′ rooms′ reply′ r =
+    Answers (lineCall line b hs rooms) b′ reply reply′ r × ((hs′ ≡ lineHalves line b hs rooms) × (rooms′ ≡ lineRooms line b hs rooms))
+
+module _ (line rooms : List ℕ) (b : Board) (hs : Halves) {reply : List ℕ} where
+  pub line-fed : {b′ : Board} {hs′ : Halves} {rooms′ reply′ : List ℕ} {r : Done} (piece : List ℕ) → length reply ≡ 4096 → parsed line ≡ some piece
+      → Answers (bytesCall 0 piece (length reply) b hs rooms) b′ reply reply′ r
+      × ((hs′ ≡ halvesAfter 0 piece (length reply) b hs rooms) × (rooms′ ≡ roomsAfter 0 piece (length reply) b hs rooms))
+      → FedLine line b hs rooms reply b′ hs′ rooms′ reply′ r
+  unfolding lineCall lineHalves lineRooms offered halvesOffered roomsOffered
   line-fed piece l e a = rw e (rw l at a)
 
-pub line-bad : (line rooms : List ℕ) (b : Board) {reply : List ℕ} {r : Parsed} → r ≡ told (parsed line) → r ≡ Bad
-    → Answers (lineCall line b rooms) reply reply (doneOf (still (refused 255 (b .plain)) b)) × (rooms ≡ lineRooms line b rooms)
-unfolding lineCall lineRooms offered roomsOffered
-line-bad line rooms b {reply} e q = rw (told-bad (parsed line) (sym e ∙ q)) (record { gives = refl; leaves = sym (put-none 0 reply) }, refl)
+  pub line-bad : {p : Parsed} → p ≡ told (parsed line) → p ≡ Bad → FedLine line b hs rooms reply b hs rooms reply (doneOf (still (refused 255 b)))
+  unfolding lineCall lineHalves lineRooms offered halvesOffered roomsOffered
+  line-bad e q = rw (told-bad (parsed line) (sym e ∙ q)) (record { board = refl; gives = refl; leaves = sym (put-none 0 reply) }, (refl, refl))

@@ -15,10 +15,11 @@ use lib.ListN.{length, set, take, length-append, length-set, length-take}
 use lib.Seq.{take-all, take-append-le, take-suc-set}
 use Rattle.laws.proofs.Tests.{by-cases}
 use Rattle.framing.specs.Cut.{joined}
-use Rattle.board.specs.declared.Board.{Board}
-use Rattle.board.specs.Calls.{doneOf}
+use Rattle.rows.specs.Places.{Board}
+use Rattle.board.specs.Halves.{Halves}
+use Rattle.board.specs.Calls.{Effect}
 use Rattle.console.specs.Digits.{feeds, parsed}
-use Rattle.console.specs.Lines.{onFirst, linesOf, started, lineCall, lineRooms, shown, printed}
+use Rattle.console.specs.Lines.{onFirst, linesOf, started, startedHalves, lineCall, lineHalves, lineRooms, shown, printed}
 use Rattle.console.specs.Console.{Held, held, lineHeld, ended, kept, step, says, run, said, saidAtEnd, saidOf}
 use Rattle.console.proofs.Reading.{feeds-short, parsed-none}
 
@@ -91,29 +92,32 @@ reads-kept h cs b r =
     let full = ltb-false (h .used) 2059 f in
     rw f (record { size = r .size; count = omega (arith, r .count); chars = r .chars ∙ sym (take-append-le 2059 cs (b ∷ []) (omega (arith, r .count))) }))
 
-kept-board : (h : Held) (b : ℕ) → kept b h .board ≡ h .board
-unfolding kept
-kept-board h b = by-cases (ltb (h .used) 2059) (λ t. rw t) (λ f. rw f)
+-- what is printed of lines that come now
+abbrev pub printedFrom : Held → List (List ℕ) → List ℕ
+printedFrom h ls = printed (h .board) (h .halves) (h .rooms) ls
 
-kept-rooms : (h : Held) (b : ℕ) → kept b h .rooms ≡ h .rooms
+-- a character that is kept changes nothing of it
+kept-printed : (h : Held) (b : ℕ) (ls : List (List ℕ)) → printedFrom (kept b h) ls ≡ printedFrom h ls
 unfolding kept
-kept-rooms h b = by-cases (ltb (h .used) 2059) (λ t. rw t) (λ f. rw f)
+kept-printed h b ls = by-cases (ltb (h .used) 2059) (λ t. rw t) (λ f. rw f)
 
 -- the last line, if it has no newline
-at-end : (h : Held) (cs : List ℕ) → Reads h cs → saidAtEnd h ≡ printed (h .board) (h .rooms) (map cut (onto cs []))
+at-end : (h : Held) (cs : List ℕ) → Reads h cs → saidAtEnd h ≡ printedFrom h (map cut (onto cs []))
 unfolding saidAtEnd printed
 at-end h [] r = rw (eq-eqb (h .used) 0 (r .count))
 at-end h (c ∷ cs) r =
     let some : h .used ≡ 0 → ⊥ = λ z. omega (arith, r .count) in
-    rw (onto-none c cs, ne-eqb (h .used) 0 some, r .chars) (sym (append-nil (shown (lineCall (cut (c ∷ cs)) (h .board) (h .rooms)))))
+    rw (onto-none c cs, ne-eqb (h .used) 0 some, r .chars) (sym (append-nil (shown (lineCall (cut (c ∷ cs)) (h .board) (h .halves) (h .rooms)))))
 
 -- a newline: the line is fed, and the next begins
-line-said : (h : Held) (cs next : List ℕ) (ls : List (List ℕ)) → Reads h cs → next ≡ printed (ended h .board) (ended h .rooms) ls → shown (lineHeld h) ++ next ≡ printed (h .board) (h .rooms) (cut cs ∷ ls)
+line-said : (h : Held) (cs next : List ℕ) (ls : List (List ℕ)) → Reads h cs → next ≡ printedFrom (ended h) ls
+    → shown (lineHeld h) ++ next ≡ printedFrom h (cut cs ∷ ls)
 unfolding printed ended
 line-said h cs next ls r e = rw (← r .chars, e)
 
 -- BYTE BY BYTE: what is said of joined bytes is what is printed of their lines, each cut to its first 2,059 characters
-pub lines-kept : (bs : List ℕ) (h : Held) (cs : List ℕ) → Reads h cs → said h bs ++ saidAtEnd (run h bs) ≡ printed (h .board) (h .rooms) (map cut (onto cs (linesOf bs)))
+pub lines-kept : (bs : List ℕ) (h : Held) (cs : List ℕ) → Reads h cs
+    → said h bs ++ saidAtEnd (run h bs) ≡ printedFrom h (map cut (onto cs (linesOf bs)))
 unfolding said run linesOf step says kept
 lines-kept [] h cs r = at-end h cs r
 lines-kept (b ∷ bs) h cs r =
@@ -121,7 +125,7 @@ lines-kept (b ∷ bs) h cs r =
     (λ t.
     rw (t, onto-line cs [] (linesOf bs), append-nil cs, append-assoc (shown (lineHeld h)) (said (ended h) bs) (saidAtEnd (run (ended h) bs)))
     (line-said h cs (said (ended h) bs ++ saidAtEnd (run (ended h) bs)) (map cut (linesOf bs)) r (lines-kept bs (ended h) [] (reads-ended h cs r))))
-    (λ f. rw (f, ← onto-snoc cs b (linesOf bs)) (rw (kept-board h b, kept-rooms h b) at (lines-kept bs (kept b h) (cs ++ (b ∷ [])) (reads-kept h cs b r))))
+    (λ f. rw (f, ← onto-snoc cs b (linesOf bs)) (lines-kept bs (kept b h) (cs ++ (b ∷ [])) (reads-kept h cs b r) ∙ kept-printed h b _))
 
 -- ---- a line of any length
 
@@ -137,13 +141,18 @@ parsed-cut l =
     too-long : (l : List ℕ) → 2058 < length l → feeds l ≡ false
     too-long l h = by-cases (feeds l) (λ t. absurd (omega (arith, feeds-short l t))) (λ f. f)
 
-pub cut-same : (ls : List (List ℕ)) (b : Board) (rooms : List ℕ) → printed b rooms (map cut ls) ≡ printed b rooms ls
-unfolding printed lineCall lineRooms
-cut-same [] b rooms = refl
-cut-same (l ∷ ls) b rooms = rw (parsed-cut l) (ap (λ (x : List ℕ). shown (lineCall l b rooms) ++ x) (cut-same ls (doneOf (lineCall l b rooms) .board) (lineRooms l b rooms)))
+pub cut-same : (ls : List (List ℕ)) (b : Board) (hs : Halves) (rooms : List ℕ) → printed b hs rooms (map cut ls) ≡ printed b hs rooms ls
+unfolding printed lineCall lineHalves lineRooms
+cut-same [] b hs rooms = refl
+cut-same (l ∷ ls) b hs rooms =
+    let e : Effect = lineCall l b hs rooms in
+    rw (parsed-cut l) (ap (λ (x : List ℕ). shown e ++ x) (cut-same ls (e .did .board) (lineHalves l b hs rooms) (lineRooms l b hs rooms)))
 
--- THE LAW, at the box as it starts
-pub prints-every-line : (rooms line reply : List ℕ) (pieces : List (List ℕ)) → length line ≡ 2059 → saidOf (held started rooms line 0 reply) pieces ≡ printed started rooms (linesOf (joined pieces))
-prints-every-line rooms line reply pieces size =
-    let h : Held = held started rooms line 0 reply in
-    pieces-joined h pieces ∙ lines-kept (joined pieces) h [] (record { size = size; count = refl; chars = refl }) ∙ cut-same (linesOf (joined pieces)) started rooms
+-- THE LAW, at the box as it starts, whatever was lent
+pub prints-every-line : (halves : Halves) (rooms line reply : List ℕ) (pieces : List (List ℕ)) → length line ≡ 2059
+    → saidOf (held started (startedHalves halves) rooms line 0 reply) pieces ≡ printed started (startedHalves halves) rooms (linesOf (joined pieces))
+prints-every-line halves rooms line reply pieces size =
+    let hs : Halves = startedHalves halves in
+    let h : Held = held started hs rooms line 0 reply in
+    let begun : Reads h [] = record { size = size; count = refl; chars = refl } in
+    pieces-joined h pieces ∙ lines-kept (joined pieces) h [] begun ∙ cut-same (linesOf (joined pieces)) started hs rooms

@@ -1,5 +1,6 @@
 pub mod Reading
 pub mod Showing
+pub mod Starting
 pub mod Feeding
 pub mod Stepping
 pub mod Law

@@ -6,7 +6,7 @@ use Prim.Native.Nat.{ℕ, _+_, _*_, _≤_, _<_, min, zero-le}
 use native.Mathlib.Nat.{add-zero}
 use native.Mathlib.Omega.{arith}
 use native.Mathlib.Numerals.{add-one}
-use borrow.Author.Tests.{leb-true, leb-false, eq-eqb, ne-eqb}
+use borrow.Author.Tests.{leb-true, leb-false}
 use lib.Dec.{eqb, leb, ltb}
 use lib.ListN.{length, getD, set, take}
 use lib.Seq.{take-suc, take-all}
@@ -15,37 +15,35 @@ use Rattle.laws.proofs.Put.{then, kept as size-kept}
 use Rattle.laws.proofs.Tests.{by-cases}
 use Rattle.words.specs.Words.{Stored}
 use Rattle.words.proofs.Laws.{stored}
-use Rattle.board.specs.declared.Board.{Board}
+use Rattle.rows.specs.Places.{Board}
+use Rattle.replies.specs.Replies.{relaysOf}
 use Rattle.board.specs.declared.Done.{Done}
-use Rattle.board.specs.Calls.{Answers}
-use Rattle.console.specs.declared.Console.{Console}
+use Rattle.board.specs.Halves.{Halves}
 use Rattle.console.specs.Digits.{relayBits, shownOf}
-use Rattle.console.specs.Lines.{lineCall, lineRooms, shown}
-use Rattle.console.specs.Console.{Held, heldOf, lineHeld, ended, kept, step, says, run, said, atEnd, saidAtEnd}
+use Rattle.console.specs.Lines.{shown}
+use Rattle.console.specs.Console.{Held, held, soFar, lineHeld, ended, kept, step, says, run, said}
+use Rattle.console.proofs.Feeding.{FedLine}
 
-abbrev pub consoleOf : Board → ℕ → ℕ → Console
-consoleOf b used len = record { board = b; used = used; len = len }
-
-module _ (s : Console) (rooms line reply : List ℕ) where
+module _ (h : Held) (len : ℕ) where
   -- the line's part of the store is fed, and its answer written
-  pub line-ended : (part : List ℕ) (d : Done) (rooms′ reply′ text out out′ : List ℕ) (bits len : ℕ) → part ≡ take (s .used) line
-      → Answers (lineCall part (s .board) rooms) reply reply′ d × (rooms′ ≡ lineRooms part (s .board) rooms)
-      → bits ≡ relayBits (d .board .plain .tables .relays) → text ≡ shownOf (d .answer) bits → Stored (s .len) text out out′ len → s .len + 5 ≤ length out
-      → (heldOf (consoleOf (d .board) 0 len) rooms′ line reply′ ≡ ended (heldOf s rooms line reply)) × Wrote (s .len) (shown (lineHeld (heldOf s rooms line reply))) out out′ len
+  pub line-ended : (part : List ℕ) (d : Done) (b : Board) (hs : Halves) (rooms reply text out out′ : List ℕ) (bits len′ : ℕ) → part ≡ soFar h
+      → FedLine part (h .board) (h .halves) (h .rooms) (h .reply) b hs rooms reply d
+      → bits ≡ relayBits (relaysOf b) → text ≡ shownOf (d .answer) bits → Stored len text out out′ len′ → len + 5 ≤ length out
+      → (held b hs rooms (h .line) 0 reply ≡ ended h) × Wrote len (shown (lineHeld h)) out out′ len′
   unfolding ended shown shownOf
-  line-ended part d rooms′ reply′ text out out′ bits len p a e t w fits =
+  line-ended part d b hs rooms reply text out out′ bits len′ p a e t w fits =
       let f = rw p at a in
       let long : length text ≡ 5 = ap length t in
-      let shows : text ≡ shown (lineHeld (heldOf s rooms line reply)) = t ∙ rw (e, f .0 .gives) in
-      (rw (f .0 .gives, f .1, f .0 .leaves), rw shows at (stored (omega arith) w))
+      let shows : text ≡ shown (lineHeld h) = t ∙ rw (e, f .0 .gives, f .0 .board) in
+      (rw (f .0 .board, f .1 .0, f .1 .1, f .0 .leaves), rw shows at (stored (omega arith) w))
 
   -- a character that is no newline
-  pub byte-kept : (byte used′ : ℕ) (line′ out : List ℕ) → eqb byte 10 ≡ false → used′ ≡ cond (ltb (s .used) 2059) (s .used + 1) (s .used)
-      → line′ ≡ cond (ltb (s .used) 2059) (set line (s .used) byte) line
-      → (heldOf (consoleOf (s .board) used′ (s .len)) rooms line′ reply ≡ step (heldOf s rooms line reply) byte) × Wrote (s .len) (says (heldOf s rooms line reply) byte) out out (s .len)
+  pub byte-kept : (byte used : ℕ) (line out : List ℕ) → eqb byte 10 ≡ false → used ≡ cond (ltb (h .used) 2059) (h .used + 1) (h .used)
+      → line ≡ cond (ltb (h .used) 2059) (set (h .line) (h .used) byte) (h .line)
+      → (held (h .board) (h .halves) (h .rooms) line used (h .reply) ≡ step h byte) × Wrote len (says h byte) out out len
   unfolding step says kept put
-  byte-kept byte used′ line′ out n u l =
-      (by-cases (ltb (s .used) 2059) (λ t. rw (n, u, l, t)) (λ f. rw (n, u, l, f)), rw n (record { bytes = refl; place = sym (add-zero (s .len)) }))
+  byte-kept byte used line out n u l =
+      (by-cases (ltb (h .used) 2059) (λ t. rw (n, u, l, t)) (λ f. rw (n, u, l, f)), rw n (record { bytes = refl; place = sym (add-zero len) }))
 
 -- ---- the bytes of a read
 
@@ -63,52 +61,38 @@ says-short : (h : Held) (b : ℕ) → length (says h b) ≤ 5
 unfolding says shown shownOf
 says-short h b = by-cases (eqb b 10) (λ t. rw t (omega arith)) (λ f. rw f (omega arith))
 
--- the loop's invariant: i bytes are taken
-pub record Running (h₀ : Held) (input o₀ : List ℕ) (s : Console) (rooms line reply o : List ℕ) (i : ℕ) : Type 0 where
+-- the loop's invariant: i bytes are taken, h is held, and len bytes of output stand in o
+pub record Running (h₀ : Held) (input o₀ : List ℕ) (h : Held) (o : List ℕ) (len i : ℕ) : Type 0 where
   pub in-range : i ≤ length input
-  pub so-far : heldOf s rooms line reply ≡ run h₀ (take i input)
-  pub wrote : Wrote 0 (said h₀ (take i input)) o₀ o (s .len)
-  pub room : s .len ≤ i * 5
+  pub so-far : h ≡ run h₀ (take i input)
+  pub wrote : Wrote 0 (said h₀ (take i input)) o₀ o len
+  pub room : len ≤ i * 5
   pub same : length o ≡ length o₀
 
 module _ {h₀ : Held} {input o₀ : List ℕ} where
-  pub run-start : (s : Console) (rooms line reply : List ℕ) → heldOf s rooms line reply ≡ h₀ → s .len ≡ 0 → Running h₀ input o₀ s rooms line reply o₀ 0
+  pub run-start : Running h₀ input o₀ h₀ o₀ 0 0
   unfolding run said put
-  run-start s rooms line reply e z = record { in-range = zero-le; so-far = e; wrote = record { bytes = refl; place = z }; room = omega arith; same = refl }
+  run-start = record { in-range = zero-le; so-far = refl; wrote = record { bytes = refl; place = refl }; room = omega arith; same = refl }
 
-  pub run-turn : {s s′ : Console} {rooms line reply o rooms′ line′ reply′ o′ : List ℕ} {i : ℕ} → Running h₀ input o₀ s rooms line reply o i → i < length input
-      → heldOf s′ rooms′ line′ reply′ ≡ step (heldOf s rooms line reply) (getD input i 0)
-      → Wrote (s .len) (says (heldOf s rooms line reply) (getD input i 0)) o o′ (s′ .len)
-      → Running h₀ input o₀ s′ rooms′ line′ reply′ o′ (i + 1)
-  run-turn {s} {s′} {i = i} m h e w =
+  pub run-turn : {h h′ : Held} {o o′ : List ℕ} {len len′ i : ℕ} → Running h₀ input o₀ h o len i → i < length input
+      → h′ ≡ step h (getD input i 0) → Wrote len (says h (getD input i 0)) o o′ len′ → Running h₀ input o₀ h′ o′ len′ (i + 1)
+  run-turn {i = i} m below e w =
       let e′ = rw (m .so-far) at e in
       let w′ = rw (m .so-far) at w in
       record {
         in-range = omega arith;
-        so-far = rw (add-one, take-suc input i 0 h, run-snoc) e′;
-        wrote = rw (add-one, take-suc input i 0 h, said-snoc) (then (m .wrote) w′);
+        so-far = rw (add-one, take-suc input i 0 below, run-snoc) e′;
+        wrote = rw (add-one, take-suc input i 0 below, said-snoc) (then (m .wrote) w′);
         room = omega (arith, m .room, w′ .place, says-short (run h₀ (take i input)) (getD input i 0));
         same = size-kept w′ ∙ m .same;
       }
 
   -- all of the n bytes that there are
-  pub run-done : {s : Console} {rooms line reply o : List ℕ} {i : ℕ} (n : ℕ) → Running h₀ input o₀ s rooms line reply o i → i ≡ min n (length input)
-      → (heldOf s rooms line reply ≡ run h₀ (take n input)) × Wrote 0 (said h₀ (take n input)) o₀ o (s .len)
+  pub run-done : {h : Held} {o : List ℕ} {len i : ℕ} (n : ℕ) → Running h₀ input o₀ h o len i → i ≡ min n (length input)
+      → (h ≡ run h₀ (take n input)) × Wrote 0 (said h₀ (take n input)) o₀ o len
   run-done {i = i} n m e =
       let t : take i input ≡ take n input =
       by-cases (leb n (length input))
       (λ t. ap (λ (k : ℕ). take k input) {x = i} {y = n} (omega (arith, leb-true n (length input) t)))
       (λ f. let h = leb-false n (length input) f in take-all i input (omega arith) ∙ sym (take-all n input (omega arith))) in
       (rw t at (m .so-far), rw t at (m .wrote))
-
--- ---- the end of the input
-
-module _ (s : Console) (rooms line reply : List ℕ) where
-  pub end-none : (out : List ℕ) → s .used ≡ 0 → (heldOf s rooms line reply ≡ atEnd (heldOf s rooms line reply)) × Wrote 0 (saidAtEnd (heldOf s rooms line reply)) out out 0
-  unfolding atEnd saidAtEnd put
-  end-none out e = rw (eq-eqb (s .used) 0 e) (refl, record { bytes = refl; place = refl })
-
-  pub end-some : (h′ : Held) (out out′ : List ℕ) (len : ℕ) → (s .used ≡ 0 → ⊥) → (h′ ≡ ended (heldOf s rooms line reply)) × Wrote 0 (shown (lineHeld (heldOf s rooms line reply))) out out′ len
-      → (h′ ≡ atEnd (heldOf s rooms line reply)) × Wrote 0 (saidAtEnd (heldOf s rooms line reply)) out out′ len
-  unfolding atEnd saidAtEnd
-  end-some h′ out out′ len n e = rw (ne-eqb (s .used) 0 n) e

@@ -7,39 +7,43 @@ use Prim.Native.Nat.{ℕ, _+_}
 use lib.Dec.{eqb, ltb}
 use lib.ListN.{set, take}
 use Rattle.laws.specs.Put.{put}
-use Rattle.board.specs.declared.Board.{Board}
-use Rattle.board.specs.Calls.{Effect, doneOf}
+use Rattle.rows.specs.Places.{Board}
+use Rattle.board.specs.Halves.{Halves}
+use Rattle.board.specs.Calls.{Effect}
 use Rattle.console.specs.declared.Console.{Console}
-use Rattle.console.specs.Lines.{lineCall, lineRooms, shown}
+use Rattle.console.specs.Lines.{lineCall, lineHalves, lineRooms, shown}
 
--- the board, the rooms, the store of the line that has not ended with how much of it is used, and the reply buffer
+-- the board, the half-read messages, the rooms, the store of the line that has not ended with how much of it is used, and the reply buffer
 pub record Held : Type 0 where
   pub board : Board
+  pub halves : Halves
   pub rooms : List ℕ
   pub line : List ℕ
   pub used : ℕ
   pub reply : List ℕ
 
-abbrev pub held : Board → List ℕ → List ℕ → ℕ → List ℕ → Held
-held b rooms line used reply = record { board = b; rooms = rooms; line = line; used = used; reply = reply }
+abbrev pub held : Board → Halves → List ℕ → List ℕ → ℕ → List ℕ → Held
+held b hs rooms line used reply = record { board = b; halves = hs; rooms = rooms; line = line; used = used; reply = reply }
 
-abbrev pub heldOf : Console → List ℕ → List ℕ → List ℕ → Held
-heldOf s rooms line reply = held (s .board) rooms line (s .used) reply
+abbrev pub heldOf : Console → Board → Halves → List ℕ → List ℕ → List ℕ → Held
+heldOf s b hs rooms line reply = held b hs rooms line (s .used) reply
 
 -- the characters of the line so far
 abbrev pub soFar : Held → List ℕ
 soFar h = take (h .used) (h .line)
 
 abbrev pub lineHeld : Held → Effect
-lineHeld h = lineCall (soFar h) (h .board) (h .rooms)
+lineHeld h = lineCall (soFar h) (h .board) (h .halves) (h .rooms)
 
 -- the line has ended: it does what a line does, and the next begins
 unfoldable pub ended : Held → Held
-ended h = held (doneOf (lineHeld h) .board) (lineRooms (soFar h) (h .board) (h .rooms)) (h .line) 0 (put 0 (lineHeld h .did .reply) (h .reply))
+ended h =
+    held (lineHeld h .did .board) (lineHalves (soFar h) (h .board) (h .halves) (h .rooms)) (lineRooms (soFar h) (h .board) (h .halves) (h .rooms))
+    (h .line) 0 (put 0 (lineHeld h .did .reply) (h .reply))
 
 -- a character is kept while there is room for 2,059, so that "over 2,058 digits" is known; of a longer line no more is kept
 unfoldable pub kept : ℕ → Held → Held
-kept b h = cond (ltb (h .used) 2059) (held (h .board) (h .rooms) (set (h .line) (h .used) b) (h .used + 1) (h .reply)) h
+kept b h = cond (ltb (h .used) 2059) (held (h .board) (h .halves) (h .rooms) (set (h .line) (h .used) b) (h .used + 1) (h .reply)) h
 
 -- one byte of the input, and what it prints
 unfoldable pub step : Held → ℕ → Held

@@ -6,7 +6,7 @@ use mathlib.Core.Option.{Option, none, some}
 use Prim.Native.Nat.{ℕ, _+_, _-_, _*_, _/_, _%_}
 use lib.Dec.{eqb, leb, ltb}
 use lib.ListN.{length}
-use Rattle.tables.specs.declared.Relay.{Relay}
+use Rattle.rows.specs.declared.Relay.{Relay}
 use Rattle.console.specs.declared.Parsed.{Parsed}
 use Rattle.console.specs.declared.Parsed.the-variants.{Bytes, Bad}
 

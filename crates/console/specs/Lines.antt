@@ -6,9 +6,12 @@ use mathlib.Core.Option.{Option, none, some}
 use Prim.Native.Nat.{ℕ}
 use lib.Dec.{eqb}
 use Rattle.plain.specs.Events.{refused}
-use Rattle.board.specs.declared.Board.{Board}
+use Rattle.framing.specs.Reading.{start}
+use Rattle.rows.specs.Places.{Board}
+use Rattle.replies.specs.Replies.{relaysOf}
 use Rattle.board.specs.PowerUp.{blankSettings, poweredUp}
-use Rattle.board.specs.Calls.{Effect, doneOf, still, connectCall, bytesCall, roomsAfter}
+use Rattle.board.specs.Halves.{Halves, putHalf}
+use Rattle.board.specs.Calls.{Effect, still, connectCall, bytesCall, halvesAfter, roomsAfter}
 use lib.ListN.{replicate}
 use Rattle.console.specs.Digits.{parsed, relayBits, shownOf}
 
@@ -24,30 +27,42 @@ linesOf (b ∷ bs) = cond (eqb b 10) ([] ∷ linesOf bs) (onFirst b (linesOf bs)
 
 -- "fed to connection 0 open at rank 2"; nothing is set at power-up
 unfoldable pub started : Board
-started = doneOf (connectCall 0 2 (poweredUp (record { inputs = replicate 8 blankSettings; relays = replicate 8 0 }))) .board
+started = connectCall 0 2 (poweredUp (record { inputs = replicate 8 blankSettings; relays = replicate 8 0 })) .did .board
+
+-- the words that were lent, with nothing half read on connection 0: an opening is fresh (01, Events besides bytes, 3)
+unfoldable pub startedHalves : Halves → Halves
+startedHalves hs = putHalf 0 start hs
 
 -- "A line is one piece, offered once; what that call does not take is dropped"; a line that is none "feeds nothing and prints FF", 255.
 -- The reply buffer has 4,096 bytes.
-unfoldable pub offered : Option (List ℕ) → Board → List ℕ → Effect
-offered none b rooms = still (refused 255 (b .plain)) b
-offered (some piece) b rooms = bytesCall 0 piece 4096 b rooms
+unfoldable pub offered : Option (List ℕ) → Board → Halves → List ℕ → Effect
+offered none b hs rooms = still (refused 255 b)
+offered (some piece) b hs rooms = bytesCall 0 piece 4096 b hs rooms
 
-unfoldable pub roomsOffered : Option (List ℕ) → Board → List ℕ → List ℕ
-roomsOffered none b rooms = rooms
-roomsOffered (some piece) b rooms = roomsAfter 0 piece 4096 b rooms
+unfoldable pub halvesOffered : Option (List ℕ) → Board → Halves → List ℕ → Halves
+halvesOffered none b hs rooms = hs
+halvesOffered (some piece) b hs rooms = halvesAfter 0 piece 4096 b hs rooms
 
--- what a line does, and the rooms after it: "a half-read message waits for the next line" in the board and the rooms
-unfoldable pub lineCall : List ℕ → Board → List ℕ → Effect
-lineCall line b rooms = offered (parsed line) b rooms
+unfoldable pub roomsOffered : Option (List ℕ) → Board → Halves → List ℕ → List ℕ
+roomsOffered none b hs rooms = rooms
+roomsOffered (some piece) b hs rooms = roomsAfter 0 piece 4096 b hs rooms
 
-unfoldable pub lineRooms : List ℕ → Board → List ℕ → List ℕ
-lineRooms line b rooms = roomsOffered (parsed line) b rooms
+-- what a line does, and the halves and rooms after it: "a half-read message waits for the next line" in them
+unfoldable pub lineCall : List ℕ → Board → Halves → List ℕ → Effect
+lineCall line b hs rooms = offered (parsed line) b hs rooms
+
+unfoldable pub lineHalves : List ℕ → Board → Halves → List ℕ → Halves
+lineHalves line b hs rooms = halvesOffered (parsed line) b hs rooms
+
+unfoldable pub lineRooms : List ℕ → Board → Halves → List ℕ → List ℕ
+lineRooms line b hs rooms = roomsOffered (parsed line) b hs rooms
 
 -- what is printed of it
 unfoldable pub shown : Effect → List ℕ
-shown e = shownOf (e .did .answer) (relayBits (e .did .plain .tables .relays))
+shown e = shownOf (e .did .answer) (relayBits (relaysOf (e .did .board)))
 
 -- "For each it prints": all that is printed, line by line. "No header."
-unfoldable pub printed : Board → List ℕ → List (List ℕ) → List ℕ
-printed b rooms [] = []
-printed b rooms (l ∷ ls) = shown (lineCall l b rooms) ++ printed (doneOf (lineCall l b rooms) .board) (lineRooms l b rooms) ls
+unfoldable pub printed : Board → Halves → List ℕ → List (List ℕ) → List ℕ
+printed b hs rooms [] = []
+printed b hs rooms (l ∷ ls) =
+    shown (lineCall l b hs rooms) ++ printed (lineCall l b hs rooms .did .board) (lineHalves l b hs rooms) (lineRooms l b hs rooms) ls

@@ -1,4 +1,5 @@
 // The console: lines of hexadecimal in, four digits a line out. Each line is one piece for connection 0, which is open at rank 2.
+// `main` lends the board, the half-read messages (halves), their content (rooms), the line that has not ended and the reply buffer.
 // It alone knows hexadecimal and lines. `main`, `read_all`, `read_on` and `write_out` read and write and do nothing else; every other function is
 // on slices and numbers, and its contract says all that it answers and leaves.
 
@@ -8,23 +9,23 @@ ghost use Prim.Native.Nat.{_+_, _≤_, _<_, min};
 ghost use lib.Dec.{ltb};
 ghost use lib.ListN.{length, set, take};
 ghost use Rattle.laws.specs.Put.{put, Wrote};
+ghost use Rattle.replies.specs.Replies.{relaysOf};
 ghost use Rattle.board.specs.Calls.{Answers};
 ghost use Rattle.console.specs.Digits.{isDigit, digitOf, allDigits, feeds, pairs, parsed, told, bytesIn};
 ghost use Rattle.console.specs.Digits.{glyph as Digits·glyph};
 ghost use Rattle.console.specs.Digits.{closedBit, relayBits, shownOf};
-ghost use Rattle.console.specs.Lines.{started, lineCall, lineRooms, shown};
+ghost use Rattle.console.specs.Lines.{started, startedHalves, lineCall, lineHalves, lineRooms, shown};
 ghost use Rattle.console.specs.Console.{heldOf, lineHeld, ended, step, says, run, said, atEnd, saidAtEnd};
-use board::Board;
 use board::Done;
 use board::InputSettings;
 use board::Settings;
 use libc::STDIN_FILENO;
 use libc::STDOUT_FILENO;
-use tables::Relay;
+use rows::ROWS;
+use rows::Relay;
 
 // What is held by value between two bytes of the input: used characters of the line that has not ended, len bytes of output so far.
 struct Console {
-    board: Board,
     used: usize,
     len: usize,
 }
@@ -126,19 +127,25 @@ fn parse(line: &[u8], out: &mut [u8; 1029]) -> Parsed
 }
 
 // One line's effect. The reply is written at the front of the reply buffer and goes nowhere: the console prints its answer number alone.
-fn feed_line(b: Board, rooms: &mut [u8; 4096], line: &[u8], reply: &mut [u8; 4096]) -> Done
-    ensures { λ r. ⌜ Answers (lineCall (now (line .entry)) b (now (rooms .entry))) (now (reply .entry)) (now (reply .exit)) r ⌝ }
-    ensures { λ _. ⌜ now (rooms .exit) ≡ lineRooms (now (line .entry)) b (now (rooms .entry)) ⌝ }
+fn feed_line(
+    board: &mut [[u64; 8]; ROWS],
+    halves: &mut [[u64; 3]; 4],
+    rooms: &mut [u8; 4096],
+    line: &[u8],
+    reply: &mut [u8; 4096],
+) -> Done
+    ensures { λ r. ⌜ Answers (lineCall (now (line .entry)) (now (board .entry)) (now (halves .entry)) (now (rooms .entry))) (now (board .exit)) (now (reply .entry)) (now (reply .exit)) r ⌝ }
+    ensures { λ _. ⌜ now (halves .exit) ≡ lineHalves (now (line .entry)) (now (board .entry)) (now (halves .entry)) (now (rooms .entry)) ⌝ }
+    ensures { λ _. ⌜ now (rooms .exit) ≡ lineRooms (now (line .entry)) (now (board .entry)) (now (halves .entry)) (now (rooms .entry)) ⌝ }
 {
     let mut piece = [0u8; 1029];
     let p = parse(line, &mut piece);
     match p {
-        Parsed::Bytes(n) => board::bytes(b, rooms, 0, &piece[..n], reply),
+        Parsed::Bytes(n) => board::bytes(board, halves, rooms, 0, &piece[..n], reply),
         Parsed::Bad => Done {
-            board: b,
-            answer: 255,
             taken: 0,
             len: 0,
+            answer: 255,
         },
     }
 }
@@ -152,14 +159,14 @@ fn closed_bit(r: Relay) -> u8
 }
 
 // The relays as a byte, the last first, so that channel 1 ends as the lowest bit.
-fn relay_byte(relays: [Relay; 8]) -> u8
-    ensures { λ r. ⌜ r ≡ relayBits relays ⌝ }
+fn relay_byte(board: &[[u64; 8]; ROWS]) -> u8
+    ensures { λ r. ⌜ r ≡ relayBits (relaysOf (now (board .entry))) ⌝ }
 {
     let mut v: u8 = 0;
     let mut k: usize = 8;
     while 0 < k {
+        let r = rows::relay_at(board, k);
         k -= 1;
-        let r = relays[k];
         v = v * 2 + closed_bit(r);
     }
     v
@@ -187,8 +194,9 @@ fn digits(answer: u8, relays: u8) -> [u8; 5]
 // ---- the box
 
 // The box at power-up with nothing set, and connection 0 open at rank 2.
-fn start() -> Board
-    ensures { λ r. ⌜ r ≡ started ⌝ }
+fn start(board: &mut [[u64; 8]; ROWS], halves: &mut [[u64; 3]; 4])
+    ensures { λ _. ⌜ now (board .exit) ≡ started ⌝ }
+    ensures { λ _. ⌜ now (halves .exit) ≡ startedHalves (now (halves .entry)) ⌝ }
 {
     let nothing = InputSettings {
         setpointOne: 0,
@@ -198,9 +206,10 @@ fn start() -> Board
     };
     let inputs = [nothing; 8];
     let relays = [0u64; 8];
-    let d = board::connect(board::power_up(Settings { inputs, relays }), 0, 2);
-    d.board
+    board::power_up(board, Settings { inputs, relays });
+    board::connect(board, halves, 0, 2);
 }
+
 // ---- lines out of the input
 
 // The characters of the line so far.
@@ -216,24 +225,22 @@ fn so_far(line: &[u8], used: usize) -> &[u8]
 // The line has ended: it is fed, and its answer stands behind the output so far.
 fn end_line(
     s: Console,
+    board: &mut [[u64; 8]; ROWS],
+    halves: &mut [[u64; 3]; 4],
     rooms: &mut [u8; 4096],
     line: &[u8; 2059],
     reply: &mut [u8; 4096],
     out: &mut [u8],
 ) -> Console
     requires { ⌜ s .len + 5 ≤ length (now out) ⌝ }
-    ensures { λ r. ⌜ heldOf r (now (rooms .exit)) (now (line .entry)) (now (reply .exit)) ≡ ended (heldOf s (now (rooms .entry)) (now (line .entry)) (now (reply .entry))) ⌝ }
-    ensures { λ r. ⌜ Wrote (s .len) (shown (lineHeld (heldOf s (now (rooms .entry)) (now (line .entry)) (now (reply .entry))))) (now (out .entry)) (now (out .exit)) (r .len) ⌝ }
+    ensures { λ r. ⌜ heldOf r (now (board .exit)) (now (halves .exit)) (now (rooms .exit)) (now (line .entry)) (now (reply .exit)) ≡ ended (heldOf s (now (board .entry)) (now (halves .entry)) (now (rooms .entry)) (now (line .entry)) (now (reply .entry))) ⌝ }
+    ensures { λ r. ⌜ Wrote (s .len) (shown (lineHeld (heldOf s (now (board .entry)) (now (halves .entry)) (now (rooms .entry)) (now (line .entry)) (now (reply .entry))))) (now (out .entry)) (now (out .exit)) (r .len) ⌝ }
 {
-    let b = s.board;
-    let d = feed_line(b, rooms, so_far(line, s.used), reply);
-    let board = d.board;
-    let relays = board.plain.tables.relays;
-    let text = digits(d.answer, relay_byte(relays));
+    let d = feed_line(board, halves, rooms, so_far(line, s.used), reply);
+    let text = digits(d.answer, relay_byte(board));
     let at = s.len;
     let len = words::copy(out, at, &text);
     Console {
-        board,
         used: 0, // the next line has no character yet
         len,
     }
@@ -254,6 +261,8 @@ fn keep(line: &mut [u8; 2059], used: usize, byte: u8) -> usize
 // One byte of the input: a newline ends the line, another is kept.
 fn take_byte(
     s: Console,
+    board: &mut [[u64; 8]; ROWS],
+    halves: &mut [[u64; 3]; 4],
     rooms: &mut [u8; 4096],
     line: &mut [u8; 2059],
     reply: &mut [u8; 4096],
@@ -261,11 +270,11 @@ fn take_byte(
     byte: u8,
 ) -> Console
     requires { ⌜ s .len + 5 ≤ length (now out) ⌝ }
-    ensures { λ r. ⌜ heldOf r (now (rooms .exit)) (now (line .exit)) (now (reply .exit)) ≡ step (heldOf s (now (rooms .entry)) (now (line .entry)) (now (reply .entry))) byte ⌝ }
-    ensures { λ r. ⌜ Wrote (s .len) (says (heldOf s (now (rooms .entry)) (now (line .entry)) (now (reply .entry))) byte) (now (out .entry)) (now (out .exit)) (r .len) ⌝ }
+    ensures { λ r. ⌜ heldOf r (now (board .exit)) (now (halves .exit)) (now (rooms .exit)) (now (line .exit)) (now (reply .exit)) ≡ step (heldOf s (now (board .entry)) (now (halves .entry)) (now (rooms .entry)) (now (line .entry)) (now (reply .entry))) byte ⌝ }
+    ensures { λ r. ⌜ Wrote (s .len) (says (heldOf s (now (board .entry)) (now (halves .entry)) (now (rooms .entry)) (now (line .entry)) (now (reply .entry))) byte) (now (out .entry)) (now (out .exit)) (r .len) ⌝ }
 {
     if byte == 10 {
-        return end_line(s, rooms, line, reply, out);
+        return end_line(s, board, halves, rooms, line, reply, out);
     }
     let mut next = s;
     next.used = keep(line, s.used, byte);
@@ -283,21 +292,23 @@ fn within(n: usize) -> usize
 // stands at the front of out.
 fn take_read(
     s: Console,
+    board: &mut [[u64; 8]; ROWS],
+    halves: &mut [[u64; 3]; 4],
     rooms: &mut [u8; 4096],
     line: &mut [u8; 2059],
     reply: &mut [u8; 4096],
     input: &[u8],
     out: &mut [u8; 20480],
 ) -> Console
-    ensures { λ r. ⌜ heldOf r (now (rooms .exit)) (now (line .exit)) (now (reply .exit)) ≡ run (heldOf s (now (rooms .entry)) (now (line .entry)) (now (reply .entry))) (take 4096 (now (input .entry))) ⌝ }
-    ensures { λ r. ⌜ Wrote 0 (said (heldOf s (now (rooms .entry)) (now (line .entry)) (now (reply .entry))) (take 4096 (now (input .entry)))) (now (out .entry)) (now (out .exit)) (r .len) ⌝ }
+    ensures { λ r. ⌜ heldOf r (now (board .exit)) (now (halves .exit)) (now (rooms .exit)) (now (line .exit)) (now (reply .exit)) ≡ run (heldOf s (now (board .entry)) (now (halves .entry)) (now (rooms .entry)) (now (line .entry)) (now (reply .entry))) (take 4096 (now (input .entry))) ⌝ }
+    ensures { λ r. ⌜ Wrote 0 (said (heldOf s (now (board .entry)) (now (halves .entry)) (now (rooms .entry)) (now (line .entry)) (now (reply .entry))) (take 4096 (now (input .entry)))) (now (out .entry)) (now (out .exit)) (r .len) ⌝ }
 {
     let count = within(input.len());
     let mut next = s;
     next.len = 0;
     let mut i: usize = 0;
     while i < count {
-        next = take_byte(next, rooms, line, reply, out, input[i]);
+        next = take_byte(next, board, halves, rooms, line, reply, out, input[i]);
         i += 1;
     }
     next
@@ -306,20 +317,22 @@ fn take_read(
 // The end of the input: a last line without a newline counts if it is not empty.
 fn take_end(
     s: Console,
+    board: &mut [[u64; 8]; ROWS],
+    halves: &mut [[u64; 3]; 4],
     rooms: &mut [u8; 4096],
     line: &[u8; 2059],
     reply: &mut [u8; 4096],
     out: &mut [u8; 5],
 ) -> Console
-    ensures { λ r. ⌜ heldOf r (now (rooms .exit)) (now (line .entry)) (now (reply .exit)) ≡ atEnd (heldOf s (now (rooms .entry)) (now (line .entry)) (now (reply .entry))) ⌝ }
-    ensures { λ r. ⌜ Wrote 0 (saidAtEnd (heldOf s (now (rooms .entry)) (now (line .entry)) (now (reply .entry)))) (now (out .entry)) (now (out .exit)) (r .len) ⌝ }
+    ensures { λ r. ⌜ heldOf r (now (board .exit)) (now (halves .exit)) (now (rooms .exit)) (now (line .entry)) (now (reply .exit)) ≡ atEnd (heldOf s (now (board .entry)) (now (halves .entry)) (now (rooms .entry)) (now (line .entry)) (now (reply .entry))) ⌝ }
+    ensures { λ r. ⌜ Wrote 0 (saidAtEnd (heldOf s (now (board .entry)) (now (halves .entry)) (now (rooms .entry)) (now (line .entry)) (now (reply .entry)))) (now (out .entry)) (now (out .exit)) (r .len) ⌝ }
 {
     let mut next = s;
     next.len = 0;
     if next.used == 0 {
         return next;
     }
-    end_line(next, rooms, line, reply, out)
+    end_line(next, board, halves, rooms, line, reply, out)
 }
 
 // ---- reading and writing
@@ -340,6 +353,8 @@ struct Turn {
 // One read, and the answers to the lines that end in it.
 fn read_on(
     s: Console,
+    board: &mut [[u64; 8]; ROWS],
+    halves: &mut [[u64; 3]; 4],
     rooms: &mut [u8; 4096],
     line: &mut [u8; 2059],
     reply: &mut [u8; 4096],
@@ -354,7 +369,7 @@ fn read_on(
     }
     let mut out = [0u8; 20480];
     let n = io::count(got, &input);
-    let console = take_read(s, rooms, line, reply, &input[..n], &mut out);
+    let console = take_read(s, board, halves, rooms, line, reply, &input[..n], &mut out);
     let more = write_out(&out, console.len);
     Turn { console, more }
 }
@@ -362,6 +377,8 @@ fn read_on(
 // A proved loop has to end, and nothing says that the input does: it counts its turns down, from a number that no run uses up.
 fn read_all(
     s: Console,
+    board: &mut [[u64; 8]; ROWS],
+    halves: &mut [[u64; 3]; 4],
     rooms: &mut [u8; 4096],
     line: &mut [u8; 2059],
     reply: &mut [u8; 4096],
@@ -373,24 +390,37 @@ fn read_all(
     };
     while turns > 0 && turn.more {
         let console = turn.console;
-        turn = read_on(console, rooms, line, reply);
+        turn = read_on(console, board, halves, rooms, line, reply);
         turns -= 1;
     }
     turn.console
 }
 
 fn main() {
+    let mut board = [[0u64; 8]; ROWS];
+    let mut halves = [[0u64; 3]; 4];
     let mut rooms = [0u8; 4096];
     let mut line = [0u8; 2059];
     let mut reply = [0u8; 4096];
-    let board = start();
-    let begun = Console {
-        board,
-        used: 0,
-        len: 0,
-    };
-    let read = read_all(begun, &mut rooms, &mut line, &mut reply);
+    start(&mut board, &mut halves);
+    let begun = Console { used: 0, len: 0 };
+    let read = read_all(
+        begun,
+        &mut board,
+        &mut halves,
+        &mut rooms,
+        &mut line,
+        &mut reply,
+    );
     let mut out = [0u8; 5];
-    let last = take_end(read, &mut rooms, &line, &mut reply, &mut out);
+    let last = take_end(
+        read,
+        &mut board,
+        &mut halves,
+        &mut rooms,
+        &line,
+        &mut reply,
+        &mut out,
+    );
     write_out(&out, last.len);
 }

@@ -7,7 +7,7 @@ use mathlib.Core.List.{List, [], _∷_}
 use Prim.Native.Nat.{ℕ, zero, suc, _+_, _-_, _≤_, _<_, min, zero-le}
 use native.Mathlib.Omega.{arith}
 use lib.Dec.{eqb, ltb}
-use lib.ListN.{getD, set, replicate}
+use lib.ListN.{set, replicate}
 use lib.Seq.{getD-set-other}
 use Rattle.laws.proofs.Tests.{by-cases}
 use Rattle.words.proofs.Laws.{Bytes, number-lt}

@@ -1,13 +1,13 @@
 // Runs the published strings and frames, and frames at the edges of document 01, and prints what becomes of each.
 // What it must print is in `stdout`, taken from the documents (docs/VECTORS.md says which line from where).
 
-use board::Board;
 use board::Done;
 use board::InputSettings;
 use board::Settings;
 use framing::Fed;
 use framing::Half;
 use framing::Outcome;
+use rows::ROWS;
 
 fn text(s: &[u8]) {
     io::write_all(1, s);
@@ -257,14 +257,11 @@ fn streams() {
 // ---- the box, with several connections
 
 // The relays as a number, channel 1 the lowest bit.
-fn relays(b: Board) -> u64 {
-    let p = b.plain;
-    let t = p.tables;
-    let rs = t.relays;
+fn relays(board: &[[u64; 8]; ROWS]) -> u64 {
     let mut sum: u64 = 0;
     let mut weight: u64 = 1;
     for k in 0..8 {
-        let r = rs[k];
+        let r = rows::relay_at(board, k + 1);
         if r.closed {
             sum = (sum + weight) % 256;
         }
@@ -273,9 +270,8 @@ fn relays(b: Board) -> u64 {
     sum
 }
 
-// What a call came to is printed, and the board goes on.
-fn shown(name: &[u8], d: Done) -> Board {
-    let b = d.board;
+// What a call came to, and the relays after it.
+fn shown(name: &[u8], board: &[[u64; 8]; ROWS], d: Done) {
     text(name);
     text(b": answer ");
     number(d.answer as usize);
@@ -284,137 +280,191 @@ fn shown(name: &[u8], d: Done) -> Board {
     text(b" reply ");
     number(d.len);
     text(b" relays ");
-    io::print_hex(1, relays(b), 2);
+    io::print_hex(1, relays(board), 2);
     text(b"\n");
-    b
+}
+
+fn connect(name: &[u8], board: &mut [[u64; 8]; ROWS], halves: &mut [[u64; 3]; 4], c: u8, rank: u8) {
+    let d = board::connect(board, halves, c, rank);
+    shown(name, board, d);
+}
+
+fn close(name: &[u8], board: &mut [[u64; 8]; ROWS], halves: &mut [[u64; 3]; 4], c: u8) {
+    let d = board::close(board, halves, c);
+    shown(name, board, d);
 }
 
 // A piece of connection c, with a reply buffer of 4,096 bytes.
-fn piece(name: &[u8], b: Board, rooms: &mut [u8; 4096], c: u8, bytes: &[u8]) -> Board {
+fn piece(
+    name: &[u8],
+    board: &mut [[u64; 8]; ROWS],
+    halves: &mut [[u64; 3]; 4],
+    rooms: &mut [u8; 4096],
+    c: u8,
+    bytes: &[u8],
+) {
     let mut reply = [0u8; 4096];
-    shown(name, board::bytes(b, rooms, c, bytes, &mut reply))
+    let d = board::bytes(board, halves, rooms, c, bytes, &mut reply);
+    shown(name, board, d);
 }
 
 // The same with one byte less.
-fn piece_short(name: &[u8], b: Board, rooms: &mut [u8; 4096], c: u8, bytes: &[u8]) -> Board {
+fn piece_short(
+    name: &[u8],
+    board: &mut [[u64; 8]; ROWS],
+    halves: &mut [[u64; 3]; 4],
+    rooms: &mut [u8; 4096],
+    c: u8,
+    bytes: &[u8],
+) {
     let mut reply = [0u8; 4095];
-    shown(name, board::bytes(b, rooms, c, bytes, &mut reply))
+    let d = board::bytes(board, halves, rooms, c, bytes, &mut reply);
+    shown(name, board, d);
 }
 
-fn collect(name: &[u8], b: Board, c: u8) -> Board {
+fn collect(name: &[u8], board: &mut [[u64; 8]; ROWS], c: u8) {
     let mut reply = [0u8; 4096];
-    shown(name, board::collect(b, c, &mut reply))
+    let d = board::collect(board, c, &mut reply);
+    shown(name, board, d);
 }
 
-fn fresh_box() -> Board {
+fn level(name: &[u8], board: &mut [[u64; 8]; ROWS], k: u8, v: u8) {
+    let d = board::level(board, k, v);
+    shown(name, board, d);
+}
+
+fn power_up(board: &mut [[u64; 8]; ROWS]) {
     let input = InputSettings {
         setpointOne: 0,
         setpointTwo: 0,
         usageSetpoint: 0,
         alarm: false,
     };
-    board::power_up(Settings {
-        inputs: [input; 8],
-        relays: [0; 8],
-    })
+    board::power_up(
+        board,
+        Settings {
+            inputs: [input; 8],
+            relays: [0; 8],
+        },
+    );
 }
 
 // Four connections are opened; a fifth number, an open one and a rank above 2 are refused.
-fn opening(b: Board) -> Board {
-    let b = shown(b"open 0 at 2", board::connect(b, 0, 2));
-    let b = shown(b"open 1 at 1", board::connect(b, 1, 1));
-    let b = shown(b"open 2 at 0", board::connect(b, 2, 0));
-    let b = shown(b"open 4 at 2", board::connect(b, 4, 2));
-    let b = shown(b"open 0 at 3", board::connect(b, 0, 3));
-    shown(b"open 3 at 3", board::connect(b, 3, 3))
+fn opening(board: &mut [[u64; 8]; ROWS], halves: &mut [[u64; 3]; 4]) {
+    connect(b"open 0 at 2", board, halves, 0, 2);
+    connect(b"open 1 at 1", board, halves, 1, 1);
+    connect(b"open 2 at 0", board, halves, 2, 0);
+    connect(b"open 4 at 2", board, halves, 4, 2);
+    connect(b"open 0 at 3", board, halves, 0, 3);
+    connect(b"open 3 at 3", board, halves, 3, 3);
 }
 
-// Half a block command on 0, a toggle on 1 in between, the rest of the block with a keep-alive behind it, and a command at rank 0.
-fn mixing(b: Board, rooms: &mut [u8; 4096]) -> Board {
-    let b = piece(b"0 block, first half", b, rooms, 0, b"\x01\x00\x04\xff");
-    let b = piece(
+// Half a block command on 0, a toggle on 1 in between, the rest of the block with a keep-alive behind it.
+fn mixing(board: &mut [[u64; 8]; ROWS], halves: &mut [[u64; 3]; 4], rooms: &mut [u8; 4096]) {
+    piece(
+        b"0 block, first half",
+        board,
+        halves,
+        rooms,
+        0,
+        b"\x01\x00\x04\xff",
+    );
+    piece(
         b"1 toggle 2",
-        b,
+        board,
+        halves,
         rooms,
         1,
         b"\x01\x00\x04\xff\xff\x0a\x03\x00\x02",
     );
-    let b = piece(
+    piece(
         b"0 block, second half",
-        b,
+        board,
+        halves,
         rooms,
         0,
         b"\xff\x0a\x0a\x05\x05\x06",
     );
-    let b = piece(b"0 keep-alive", b, rooms, 0, b"\x06");
-    let b = piece(
+    piece(b"0 keep-alive", board, halves, rooms, 0, b"\x06");
+}
+
+// A command at rank 0, and a piece of a connection that is shut.
+fn refusing(board: &mut [[u64; 8]; ROWS], halves: &mut [[u64; 3]; 4], rooms: &mut [u8; 4096]) {
+    piece(
         b"2 toggle 1",
-        b,
+        board,
+        halves,
         rooms,
         2,
         b"\x01\x00\x04\xff\xff\x0a\x03\x00\x01",
     );
-    piece(b"3 is shut", b, rooms, 3, b"\x06")
+    piece(b"3 is shut", board, halves, rooms, 3, b"\x06");
 }
 
 // The marks: both openings at rank 1 and 2 are due, each once; rank 0 never; a mask of 0 changes nothing.
-fn collecting(b: Board, rooms: &mut [u8; 4096]) -> Board {
-    let b = collect(b"collect 0", b, 0);
-    let b = collect(b"collect 0 again", b, 0);
-    let b = collect(b"collect 2", b, 2);
-    let b = piece(
+fn collecting(board: &mut [[u64; 8]; ROWS], halves: &mut [[u64; 3]; 4], rooms: &mut [u8; 4096]) {
+    collect(b"collect 0", board, 0);
+    collect(b"collect 0 again", board, 0);
+    collect(b"collect 2", board, 2);
+    piece(
         b"0 block of none",
-        b,
+        board,
+        halves,
         rooms,
         0,
         b"\x01\x00\x04\xff\xff\x0a\x0a\x00\xff",
     );
-    let b = collect(b"collect 0 after it", b, 0);
-    let b = shown(b"input 1 rises", board::level(b, 1, 1));
-    collect(b"collect 0 after that", b, 0)
+    collect(b"collect 0 after it", board, 0);
+    level(b"input 1 rises", board, 1, 1);
+    collect(b"collect 0 after that", board, 0);
 }
 
 // A message half read at a closing is none.
-fn closing(b: Board, rooms: &mut [u8; 4096]) -> Board {
-    let b = piece(
+fn closing(board: &mut [[u64; 8]; ROWS], halves: &mut [[u64; 3]; 4], rooms: &mut [u8; 4096]) {
+    piece(
         b"1 half a message",
-        b,
+        board,
+        halves,
         rooms,
         1,
         b"\x01\x00\x04\xff\xff\x0a\x03",
     );
-    let b = shown(b"close 1", board::close(b, 1));
-    let b = shown(b"close 1 again", board::close(b, 1));
-    let b = shown(b"open 1 at 1", board::connect(b, 1, 1));
-    piece(b"1 the other half", b, rooms, 1, b"\x00\x02")
+    close(b"close 1", board, halves, 1);
+    close(b"close 1 again", board, halves, 1);
+    connect(b"open 1 at 1", board, halves, 1, 1);
+    piece(b"1 the other half", board, halves, rooms, 1, b"\x00\x02");
 }
 
 // 01's edges: N = 1,024 is judged, 1,025 gives 6; a buffer of 4,095 gives 4.
-fn edges(b: Board, rooms: &mut [u8; 4096]) -> Board {
+fn edges(board: &mut [[u64; 8]; ROWS], halves: &mut [[u64; 3]; 4], rooms: &mut [u8; 4096]) {
     let mut held = [0u8; 1029];
     held[0] = 1;
     held[1] = 4;
     held[3] = 255;
     held[4] = 255;
-    let b = piece(b"0 N 1024", b, rooms, 0, &held);
+    piece(b"0 N 1024", board, halves, rooms, 0, &held);
     let mut over = [0u8; 1030];
     over[0] = 1;
     over[1] = 4;
     over[2] = 1;
     over[3] = 255;
     over[4] = 255;
-    let b = piece(b"0 N 1025", b, rooms, 0, &over);
-    let b = piece_short(b"0 buffer 4095", b, rooms, 0, b"\x06");
-    piece(b"0 buffer 4096", b, rooms, 0, b"\x06")
+    piece(b"0 N 1025", board, halves, rooms, 0, &over);
+    piece_short(b"0 buffer 4095", board, halves, rooms, 0, b"\x06");
+    piece(b"0 buffer 4096", board, halves, rooms, 0, b"\x06");
 }
 
 fn box_of_four() {
+    let mut board = [[0u64; 8]; ROWS];
+    let mut halves = [[0u64; 3]; 4];
     let mut rooms = [0u8; 4096];
-    let b = opening(fresh_box());
-    let b = mixing(b, &mut rooms);
-    let b = collecting(b, &mut rooms);
-    let b = closing(b, &mut rooms);
-    edges(b, &mut rooms);
+    power_up(&mut board);
+    opening(&mut board, &mut halves);
+    mixing(&mut board, &mut halves, &mut rooms);
+    refusing(&mut board, &mut halves, &mut rooms);
+    collecting(&mut board, &mut halves, &mut rooms);
+    closing(&mut board, &mut halves, &mut rooms);
+    edges(&mut board, &mut halves, &mut rooms);
 }
 
 fn main() {

@@ -1,5 +1,6 @@
 -- `console::end_line`. Assumes nothing.
 use borrow.Author.Needs.{needs}
+use Rattle.console.specs.Console.{heldOf}
 use Rattle.console.proofs.Stepping.{line-ended}
 use Rattle.console.proofs.end_line.Statement.{statement}
 use Rattle.console.proofs.end_line.Tie as tie
@@ -18,7 +19,10 @@ end-line-spec =
     (λ c.
     let d = c .before .before .before .before .before .digits in
     let r = c .before .before .before .before .before .before .relay-byte in
-    let f = c .before .before .before .before .before .before .before .before .before .feed-line in
-    let p = c .before .before .before .before .before .before .before .before .before .before .before .so-far in
-    let i = c .before .before .before .before .before .before .before .before .before .before .before .before .before .before .before .before in
-    line-ended (i .args .s) (i .args .rooms .now) (i .args .line .now) (i .args .reply .now) _ (f .result) (f .last .1 .0) (f .last .1 .1 .1 .0) (d .result) _ _ (r .result) _ (p .ensures) (f .ensures) (r .ensures) (d .ensures) (c .before .before .copy .ensures) (i .pre)))
+    let k = c .before .before .before .before .before .before .before .before in
+    let f = k .feed-line in
+    let i = k .before .before .before .before .before .before .before .before in
+    let a = i .args in
+    line-ended (heldOf (a .s) (a .board .now) (a .halves .now) (a .rooms .now) (a .line .now) (a .reply .now)) _
+    _ (f .result) (f .last .0) (f .last .1 .0) (f .last .1 .1 .0) (f .last .1 .1 .1 .1 .0) (d .result) _ _ (r .result) _
+    (k .before .before .so-far .ensures) (f .ensures) (r .ensures) (d .ensures) (c .before .before .copy .ensures) (i .pre)))

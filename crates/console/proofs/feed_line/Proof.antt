@@ -12,11 +12,15 @@ feed-line-spec =
     (tie.spec
     (λ c κs. search needs)
     (λ c. search needs)
-    (λ c. let p = c .before .before .before .before .parse in piece-parsed _ _ _ _ _ (search needs) (p .ensures .0) (p .ensures .1) (c .before .before .p .given .1) .0)
-    (λ c. let p = c .before .before .before .before .before .parse in
-    sym (length-take-le _ _ (piece-parsed _ _ _ _ _ (search needs) (p .ensures .0) (p .ensures .1) (c .before .before .before .p .given .1) .0)))
+    (λ c. let k = c .before .before .before .before in
+    let p = k .before .before .parse .ensures in
+    piece-parsed _ _ _ _ _ (search needs) (p .0) (p .1) (k .p .given .1) .0)
+    (λ c. let k = c .before .before .before .before .before in
+    let p = k .before .before .parse .ensures in
+    sym (length-take-le _ _ (piece-parsed _ _ _ _ _ (search needs) (p .0) (p .1) (k .p .given .1) .0)))
     (λ c κs. search needs)
     (λ c. search needs)
-    (λ c. let p = c .before .before .before .before .before .before .before .parse in
-    line-fed _ _ _ _ (search needs) (piece-parsed _ _ _ _ _ (search needs) (p .ensures .0) (p .ensures .1) (c .before .before .before .before .before .p .given .1) .1) (c .bytes .ensures))
-    (λ c. line-bad _ _ _ (c .before .before .parse .ensures .0) (c .enum-told .given .1)))
+    (λ c. let k = c .before .before .before .before .before .before .before in
+    let p = k .before .before .parse .ensures in
+    line-fed _ _ _ _ _ (search needs) (piece-parsed _ _ _ _ _ (search needs) (p .0) (p .1) (k .p .given .1) .1) (c .bytes .ensures))
+    (λ c. line-bad _ _ _ _ (c .before .before .parse .ensures .0) (c .enum-told .given .1)))

@@ -4,10 +4,10 @@ use Rattle.console.proofs.read_all.Statement.{statement}
 use Rattle.console.proofs.read_all.Tie as tie
 
 abbrev Inv-loop : tie.InvT-loop
-Inv-loop rooms₀ line₀ reply₀ turns₀ turn₀ rooms line reply turns turn = Unit {0}
+Inv-loop board₀ halves₀ rooms₀ line₀ reply₀ turns₀ turn₀ board halves rooms line reply turns turn = Unit {0}
 
 abbrev μ-loop : tie.MeasureT-loop
-μ-loop rooms₀ line₀ reply₀ turns₀ turn₀ rooms line reply turns turn = turns
+μ-loop board₀ halves₀ rooms₀ line₀ reply₀ turns₀ turn₀ board halves rooms line reply turns turn = turns
 
 pub read-all-spec : {M : Type 1} → statement M
 read-all-spec =

@@ -6,10 +6,10 @@ use Rattle.console.proofs.relay_byte.Statement.{statement}
 use Rattle.console.proofs.relay_byte.Tie as tie
 
 abbrev Inv-loop : tie.InvT-loop
-Inv-loop relays v₀ k₀ v k = Gathering relays v k
+Inv-loop board v₀ k₀ v k = Gathering board v k
 
 abbrev μ-loop : tie.MeasureT-loop
-μ-loop relays v₀ k₀ v k = k
+μ-loop board v₀ k₀ v k = k
 
 pub relay-byte-spec : {M : Type 1} → statement M
 relay-byte-spec =
@@ -17,13 +17,14 @@ relay-byte-spec =
     (tie.spec
     Inv-loop
     μ-loop
-    (λ c. gather-start (search needs))
-    (λ c. search needs)
-    (λ c. search needs)
+    (λ c. gather-start)
+    (λ c κs. search needs)
     (λ c. search needs)
     (λ c. omega (arith, another-fits (c .before .before .loop .inv) (c .before .loop-test .taken)))
     (λ c κs. search needs)
     (λ c. omega (arith, another-fits (c .before .before .before .loop .inv) (c .before .before .loop-test .taken), c .closed-bit .ensures .1))
     (λ c. search needs)
-    (λ c. gather-turn (search needs) (c .before .before .before .loop .inv) (c .before .before .loop-test .taken) (c .closed-bit .ensures .0))
-    (λ c. gather-done (search needs) (c .before .loop .inv) (c .loop-test .left)))
+    (λ c.
+    let t = c .before .before in
+    gather-turn (t .before .loop .inv) (t .loop-test .taken) (c .before .relay-at .ensures) (c .closed-bit .ensures .0))
+    (λ c. gather-done (c .before .loop .inv) (c .loop-test .left)))

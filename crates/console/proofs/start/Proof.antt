@@ -1,14 +1,18 @@
 -- `console::start`. Assumes nothing.
+use mathlib.Core.Path.{_∙_}
 use borrow.Author.Needs.{needs}
-use Rattle.console.specs.Lines.{started}
+use Rattle.console.proofs.Starting.{opened}
+use Rattle.console.specs.Lines.{started, startedHalves}
 use Rattle.console.proofs.start.Statement.{statement}
 use Rattle.console.proofs.start.Tie as tie
 
 pub start-spec : {M : Type 1} → statement M
-unfolding started
+unfolding started startedHalves
 start-spec =
     tie.close
     (tie.spec
     (λ c κs. search needs)
     (λ c κs. search needs)
-    (λ c. rw (c .before .connect .ensures, c .before .before .power-up .ensures)))
+    (λ c.
+    let e = rw (c .before .before .before .power-up .ensures) at (c .connect .ensures) in
+    (e .0 .board, e .1 ∙ rw (e .0 .gives, opened))))

@@ -1,7 +1,7 @@
 -- `console::take_byte`. Assumes nothing.
 use borrow.Author.Needs.{needs}
 use borrow.Author.Tests.{eq-eqb, ne-eqb}
-use Rattle.console.specs.Console.{step, says}
+use Rattle.console.specs.Console.{heldOf, step, says}
 use Rattle.console.proofs.Stepping.{byte-kept}
 use Rattle.console.proofs.take_byte.Statement.{statement}
 use Rattle.console.proofs.take_byte.Tie as tie
@@ -13,8 +13,9 @@ take-byte-spec =
     (tie.spec
     (λ c κs. search needs)
     (λ c. search needs)
-    (λ c. rw (eq-eqb _ _ (c .before .before .before .before .before .before .before .if1 .taken)) (c .before .before .end-line .ensures))
+    (λ c. rw (eq-eqb _ _ (c .before .before .before .before .before .before .before .before .before .if1 .taken)) (c .before .before .end-line .ensures))
     (λ c κs. search needs)
     (λ c.
-    let i = c .before .before .before .before in
-    byte-kept (i .args .s) (i .args .rooms .now) (i .args .line .now) (i .args .reply .now) (i .args .byte) _ _ _ (ne-eqb _ _ (c .before .before .if1 .left)) (c .keep .ensures .0) (c .keep .ensures .1)))
+    let a = c .before .before .before .before .args in
+    byte-kept (heldOf (a .s) (a .board .now) (a .halves .now) (a .rooms .now) (a .line .now) (a .reply .now)) _ (a .byte)
+    _ _ _ (ne-eqb _ _ (c .before .before .if1 .left)) (c .keep .ensures .0) (c .keep .ensures .1)))

@@ -1,15 +1,17 @@
 -- `console::take_end`. Assumes nothing.
+use mathlib.Core.Path.{refl}
 use borrow.Author.Needs.{needs}
-use Rattle.console.proofs.Stepping.{end-none, end-some}
+use borrow.Author.Tests.{eq-eqb, ne-eqb}
+use Rattle.laws.specs.Put.{put}
+use Rattle.console.specs.Console.{atEnd, saidAtEnd}
 use Rattle.console.proofs.take_end.Statement.{statement}
 use Rattle.console.proofs.take_end.Tie as tie
 
 pub take-end-spec : {M : Type 1} → statement M
+unfolding atEnd saidAtEnd put
 take-end-spec =
     tie.close
     (tie.spec
-    (λ c. let i = c .before .before in end-none (i .args .s) (i .args .rooms .now) (i .args .line .now) (i .args .reply .now) _ (c .if1 .taken))
+    (λ c. rw (eq-eqb _ _ (c .if1 .taken)) (refl, record { bytes = refl; place = refl }))
     (λ c κs. search needs)
-    (λ c.
-    let i = c .before .before .before .before .before .before in
-    end-some (i .args .s) (i .args .rooms .now) (i .args .line .now) (i .args .reply .now) _ _ _ _ (c .before .before .before .before .if1 .left) (c .end-line .ensures)))
+    (λ c. rw (ne-eqb _ _ (c .before .before .before .before .before .before .if1 .left)) (c .end-line .ensures)))

@@ -8,10 +8,10 @@ use Rattle.vectors.proofs.relays.Statement.{statement}
 use Rattle.vectors.proofs.relays.Tie as tie
 
 abbrev Inv-loop : tie.InvT-loop
-Inv-loop rs sum₀ weight₀ k₀ sum weight k = (sum < 256) × (weight < 256) × (k ≤ 8)
+Inv-loop board sum₀ weight₀ k₀ sum weight k = (sum < 256) × (weight < 256) × (k ≤ 8)
 
 abbrev μ-loop : tie.MeasureT-loop
-μ-loop rs sum₀ weight₀ k₀ sum weight k = 8 - k
+μ-loop board sum₀ weight₀ k₀ sum weight k = 8 - k
 
 pub relays-spec : {M : Type 1} → statement M
 relays-spec =

@@ -1,0 +1,35 @@
+-- `framing::content`: the part's last byte ends the message where as many bytes are there as are left of it. Assumes nothing.
+use Prim.Native.Nat.{_+_}
+use native.Mathlib.Omega.{arith}
+use borrow.Author.Tests.{lt-ltb, le-ltb}
+use borrow.Author.Needs.{needs}
+use Rattle.framing.proofs.Turns.{turn-part}
+use Rattle.framing.proofs.content.Statement.{statement}
+use Rattle.framing.proofs.content.Tie as tie
+
+pub content-spec : {M : Type 1} → statement M
+content-spec =
+    tie.close
+    (tie.spec
+    (λ c. search needs)
+    (λ c. search needs)
+    (λ c. search needs)
+    (λ c. search needs)
+    (λ c κs. search needs)
+    (λ c. search needs)
+    (λ c. search needs)
+    (λ c. search needs)
+    (λ c. search needs)
+    (λ c κs. search needs)
+    (λ c. search needs)
+    (λ c. search needs)
+    (λ c. search needs)
+    (λ c. let a = c .before .before .before .before .before .before .before .before .before .args in
+    let n = c .before .before .before .before .before .before .fewer .result in
+    turn-part (a .i) n (a .got) (a .len) (a .sum) (a .room .now) _ (a .piece .now) _ (omega arith) (omega arith) (omega arith) (omega arith)
+    (c .before .before .before .keep-part .ensures) (rw (lt-ltb (a .got + n) (5 + a .len) (omega arith))))
+    (λ c. search needs)
+    (λ c. let a = c .before .before .before .before .before .before .before .before .before .args in
+    let n = c .before .before .before .before .before .before .fewer .result in
+    turn-part (a .i) n (a .got) (a .len) (a .sum) (a .room .now) _ (a .piece .now) _ (omega arith) (omega arith) (omega arith) (omega arith)
+    (c .before .before .before .keep-part .ensures) (rw (le-ltb (a .got + n) (5 + a .len) (omega arith)))))

@@ -1,0 +1,94 @@
+/* The library's calls over the plain C peer, for measuring: a program that is linked with this in place of the archive is the same program over
+ * the peer. It has one box, whatever the host lends.
+ *
+ * What is lent shows what the peer holds. After bytes and a collection only what the reference host reads then is written there: the relays'
+ * states, what is due, how far the message has been read and its content. So showing takes some ns a message. The rest follows with the next
+ * other call.
+ */
+#define ENGINE_PEER
+#include "engine.h"
+
+#include <string.h>
+
+enum { HEADER = 5 };
+
+static engine box;
+
+static wellacorn_done came_to(size_t taken, size_t len)
+{
+    return (wellacorn_done){.answer = box.answer, .taken = taken, .len = len};
+}
+
+static wellacorn_done told(wellacorn_board *board)
+{
+    *board = engine_board(&box);
+    return came_to(0, 0);
+}
+
+static void show(wellacorn_board *board)
+{
+    for (int k = 0; k < WELLACORN_CHANNELS; k++) {
+        board->relays[k].closed = box.box.tables.relays[k].closed;
+    }
+    for (int c = 0; c < WELLACORN_CONNECTIONS; c++) {
+        board->lines[c].due = box.box.connections[c].line.due;
+    }
+}
+
+void wellacorn_power_up(wellacorn_board *board, wellacorn_settings s)
+{
+    engine_power_up(&box, &s);
+    *board = engine_board(&box);
+}
+
+wellacorn_done wellacorn_level(wellacorn_board *board, uint8_t k, uint8_t v)
+{
+    engine_level(&box, k, v);
+    return told(board);
+}
+
+wellacorn_done wellacorn_pass(wellacorn_board *board, uint32_t d)
+{
+    engine_pass(&box, d);
+    return told(board);
+}
+
+wellacorn_done wellacorn_connect(wellacorn_board *board, wellacorn_half halves[WELLACORN_CONNECTIONS], uint8_t c, uint8_t rank)
+{
+    engine_connect(&box, c, rank);
+    if (box.answer == WELLACORN_SERVED) {
+        halves[c] = engine_half(&box, c);
+    }
+    return told(board);
+}
+
+wellacorn_done wellacorn_close(wellacorn_board *board, wellacorn_half halves[WELLACORN_CONNECTIONS], uint8_t c)
+{
+    engine_close(&box, c);
+    if (box.answer == WELLACORN_SERVED) {
+        halves[c] = engine_half(&box, c);
+    }
+    return told(board);
+}
+
+wellacorn_done wellacorn_bytes(wellacorn_board *board, wellacorn_half halves[WELLACORN_CONNECTIONS], uint8_t rooms[WELLACORN_ROOMS],
+                               uint8_t c, const uint8_t *piece, size_t piece_len, uint8_t *reply, size_t reply_len)
+{
+    engine_bytes(&box, c, piece, piece_len, reply, reply_len);
+    if (c < WELLACORN_CONNECTIONS) {
+        size_t read = halves[c].got + box.taken;
+        if (read > HEADER && read <= HEADER + WELLACORN_CONTENT) {
+            memcpy(rooms + (size_t)WELLACORN_CONTENT * c, box.box.connections[c].room, read - HEADER);
+        }
+        halves[c] = engine_half(&box, c);
+    }
+    show(board);
+    return came_to(box.taken, box.len);
+}
+
+wellacorn_done wellacorn_collect(wellacorn_board *board, uint8_t c, uint8_t *reply, size_t reply_len)
+{
+    engine_collect(&box, c, reply, reply_len);
+    show(board);
+    return came_to(box.taken, box.len);
+}
