@@ -43,7 +43,7 @@ both : {xs ys : List Row} → Holds xs → Holds ys → Holds (xs ++ ys)
 both {xs} {ys} p q = record { rows = rw (map-both (λ (r : Row). r .does) xs ys, map-both (λ (r : Row). r .owes) xs ys, p .rows, q .rows) }
 
 count-top : Holds countTop
-unfolding countTop  inputAt putInput onInput told levelOf idOf firstWith deviceOf inputWritten writeInput fitsExactly judgeWrite writeOf deviceDone writtenFrom markedRow leveled levelCall put fits numberAt stepOf firstOf afterOf roomOf runOf lineAt putLine onRows orderOf openedLine marked connected obeyed servedContent servedMessage poweredUp halfAt putHalf connectCall bytesCall halvesAfter roomsAfter
+unfolding countTop inputAt putInput onInput told levelOf idOf firstWith deviceOf inputWritten writeInput fitsExactly judgeWrite writeOf deviceDone writtenFrom markedRow leveled levelCall put fits numberAt stepOf firstOf afterOf roomOf runOf lineAt putLine onRows orderOf openedLine marked connected obeyed servedContent servedMessage poweredUp halfAt putHalf connectCall bytesCall halvesAfter roomsAfter
 count-top = record { rows = refl }
 
 told-again : Holds toldAgain
