@@ -17,7 +17,7 @@ use Rattle.layouts.specs.declared.Order.the-variants.{Refused, Clock, Monitor, 
 use Rattle.rows.specs.declared.Input.{Input}
 use Rattle.rows.specs.declared.Relay.{Relay}
 use Rattle.rows.specs.declared.Line.{Line}
-use Rattle.rows.specs.Rows.{isOn, word, lineIn, shutLine}
+use Rattle.rows.specs.Rows.{isOn, word, stateWord, usageWord, inputIn, lineIn, shutLine}
 use Rattle.rows.specs.Places.{Board, isChannel, isConnection, rowAt, inputAt, relayAt, putInput, putRelay, putLine, clockSet, onRows, inputPlace, relayPlace, linePlace, firstInput, firstRelay, firstLine, clockRow, rows, lineAt}
 use Rattle.rows.proofs.Channel.{in-range, channel}
 use Rattle.tables.specs.declared.Device.{Device}
@@ -47,6 +47,10 @@ use Rattle.register.proofs.Cases.{frame-cases, connect-cases, close-cas
 abbrev most : ℕ
 most = 4294967295
 
+-- what a row says of a count, if it is an input's
+abbrev countIn : List ℕ → ℕ
+countIn row = inputIn row .count
+
 -- ---- what is written into the word that a count stands in
 
 flag-small : (b : Bool) → cond b 1 0 ≤ most
@@ -68,22 +72,18 @@ written-small flags count was h k = go (hasFlag flags 2) (hasFlag flags 1)
     go false true = zero-le
     go false false = k
 
-mark-small : (row : List ℕ) → word 2 row ≤ most → word 2 (markedRow row) ≤ most
+mark-small : (row : List ℕ) → countIn row ≤ most → countIn (markedRow row) ≤ most
 unfolding markedRow
 mark-small row h = by-cases (watches (lineIn row)) (λ q. rw q (flag-small (lineIn row .monitor))) (λ q. rw q h)
 
-block-small : (mask state k : ℕ) (row : List ℕ) → word 2 row ≤ most → word 2 (blockedRow mask state k row) ≤ most
+block-small : (mask state k : ℕ) (row : List ℕ) → countIn row ≤ most → countIn (blockedRow mask state k row) ≤ most
 unfolding blockedRow
 block-small mask state k row h = by-cases (bitOf mask k) (λ q. rw q zero-le) (λ q. rw q h)
 
-usage-alone : (d : ℕ) (row : List ℕ) → word 2 row ≤ most → word 2 (usagePassed d row) ≤ most
+usage-alone : (d : ℕ) (row : List ℕ) → countIn row ≤ most → countIn (usagePassed d row) ≤ most
 unfolding usagePassed
 usage-alone d row h =
-    by-cases (isOn (word 0 row)) (λ q. rw (q, getD-set-other row 5 2 (grown (word 5 row) d) 0 (λ e. omega arith)) h) (λ q. rw q h)
-
--- the count of an input's row
-abbrev countIn : List ℕ → ℕ
-countIn row = word 2 row
+    by-cases (isOn (word stateWord row)) (λ q. rw (q, getD-set-other row usageWord 2 (grown (word usageWord row) d) 0 (λ e. omega arith)) h) (λ q. rw q h)
 
 -- so of every row of an input, which is to say of every input
 record Fit (b : Board) : Type 0 where

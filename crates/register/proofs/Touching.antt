@@ -19,7 +19,7 @@ use Rattle.rows.specs.declared.Input.{Input}
 use Rattle.rows.specs.declared.Relay.{Relay}
 use Rattle.rows.specs.declared.Line.{Line}
 use Rattle.rows.specs.Places.{Board, isChannel, isConnection, rowAt, inputAt, relayAt, lineAt, putInput, putRelay, putLine, clockSet, onRows, inputPlace, relayPlace, linePlace, firstInput, firstRelay, firstLine, clockRow}
-use Rattle.rows.specs.Rows.{isOn, word, lineIn, lineWords, shutLine}
+use Rattle.rows.specs.Rows.{lineIn, lineWords, shutLine}
 use Rattle.rows.proofs.Channel.{in-range}
 use Rattle.rows.proofs.Range.{beyond}
 use Rattle.rows.proofs.Views.{flag-again, line-again}
@@ -69,7 +69,7 @@ still {b = b} = quiet (same b)
 -- ---- rows
 
 abbrev opened : List ℕ → Bool
-opened row = isOn (word 0 row)
+opened row = lineIn row .isOpen
 
 abbrev unmarked : List ℕ → Line
 unmarked row = withDue false (lineIn row)

@@ -20,18 +20,25 @@ isOn w = not (eqb w 0)
 abbrev pub flagged : Bool → ℕ
 flagged b = cond b 1 0
 
+-- 01, Events, 2: the words that the rows of inputs and relays have in common: on or closed, and the usage that grows then
+abbrev pub stateWord : ℕ
+stateWord = 0
+
+abbrev pub usageWord : ℕ
+usageWord = 5
+
 -- 01, What the box holds, 1: an input in its row, and the words of an input; the last word is kept free
 abbrev pub inputIn : List ℕ → Input
 inputIn w =
-    record { level = isOn (word 0 w); alarm = isOn (word 1 w); count = word 2 w; setpointOne = word 3 w; setpointTwo = word 4 w; usage = word 5 w; usageSetpoint = word 6 w }
+    record { level = isOn (word stateWord w); alarm = isOn (word 1 w); count = word 2 w; setpointOne = word 3 w; setpointTwo = word 4 w; usage = word usageWord w; usageSetpoint = word 6 w }
 
 abbrev pub inputWords : Input → List ℕ
 inputWords i =
     flagged (i .level) ∷ flagged (i .alarm) ∷ i .count ∷ i .setpointOne ∷ i .setpointTwo ∷ i .usage ∷ i .usageSetpoint ∷ 0 ∷ []
 
--- 01, What the box holds, 2: a relay in its row, and the words of a relay; its state and usage stand where an input's level and usage do
+-- 01, What the box holds, 2: a relay in its row, and the words of a relay
 abbrev pub relayIn : List ℕ → Relay
-relayIn w = record { closed = isOn (word 0 w); usage = word 5 w; usageSetpoint = word 6 w }
+relayIn w = record { closed = isOn (word stateWord w); usage = word usageWord w; usageSetpoint = word 6 w }
 
 abbrev pub relayWords : Relay → List ℕ
 relayWords r = flagged (r .closed) ∷ 0 ∷ 0 ∷ 0 ∷ 0 ∷ r .usage ∷ r .usageSetpoint ∷ 0 ∷ []

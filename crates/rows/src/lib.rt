@@ -17,6 +17,11 @@ pub const FIRST_LINE: usize = 17;
 
 pub const ROWS: usize = 21;
 
+// The words that the rows of inputs and relays have in common: on or closed, and the usage that grows then.
+pub const STATE: usize = 0;
+
+pub const USAGE: usize = 5;
+
 // An input; alarm is its alarm switch.
 pub struct Input {
     pub level: bool,
@@ -54,12 +59,12 @@ pub fn input_in(row: [u64; 8]) -> Input
     ensures { λ r. ⌜ r ≡ inputIn row ⌝ }
 {
     Input {
-        level: row[0] != 0,
+        level: row[STATE] != 0,
         alarm: row[1] != 0,
         count: row[2],
         setpointOne: row[3],
         setpointTwo: row[4],
-        usage: row[5],
+        usage: row[USAGE],
         usageSetpoint: row[6],
     }
 }
@@ -83,8 +88,8 @@ pub fn relay_in(row: [u64; 8]) -> Relay
     ensures { λ r. ⌜ r ≡ relayIn row ⌝ }
 {
     Relay {
-        closed: row[0] != 0,
-        usage: row[5],
+        closed: row[STATE] != 0,
+        usage: row[USAGE],
         usageSetpoint: row[6],
     }
 }
