@@ -47,7 +47,7 @@ unique = set()
 for path in glob.glob("crates/*/proofs/Unique*.antt"):
     text = read(path)
     for crate, function, alias in re.findall(r"(?m)^use Rattle·(\w+?)(?:·proofs)?\.proofs(?:\.proofs)?\.(\w+)\.Reads as (\S+)$", text):
-        if re.search(r"(?m)^pub unique-\S+ : .* → %s\.Post κs a r s → %s\.Post κs a r′ s′ → " % (re.escape(alias), re.escape(alias)), text):
+        if re.search(r"(?m)^pub unique-\S+ : .* → %s\.Post κs a r s → %s\.Post κs a r′ s′\s+→ " % (re.escape(alias), re.escape(alias)), text):
             unique.add((crate, function))
 functions = 0
 for crate in crates:

@@ -19,16 +19,21 @@ unique-level κs a r r′ s s′ p q = ends p q
 pub unique-pass : (κs : _) (a : _) (r r′ : _) (s s′ : _) → pass.Post κs a r s → pass.Post κs a r′ s′ → (r ≡ r′) × (now (s .0) ≡ now (s′ .0))
 unique-pass κs a r r′ s s′ p q = ends p q
 
-pub unique-connect : (κs : _) (a : _) (r r′ : _) (s s′ : _) → connect.Post κs a r s → connect.Post κs a r′ s′ → (r ≡ r′) × (now (s .0) ≡ now (s′ .0)) × (now (s .1 .0) ≡ now (s′ .1 .0))
+pub unique-connect : (κs : _) (a : _) (r r′ : _) (s s′ : _) → connect.Post κs a r s → connect.Post κs a r′ s′
+    → (r ≡ r′) × (now (s .0) ≡ now (s′ .0)) × (now (s .1 .0) ≡ now (s′ .1 .0))
 unique-connect κs a r r′ s s′ p q = halved (a .1 .1 .0) (now (a .1 .0)) p q
 
-pub unique-close : (κs : _) (a : _) (r r′ : _) (s s′ : _) → close.Post κs a r s → close.Post κs a r′ s′ → (r ≡ r′) × (now (s .0) ≡ now (s′ .0)) × (now (s .1 .0) ≡ now (s′ .1 .0))
+pub unique-close : (κs : _) (a : _) (r r′ : _) (s s′ : _) → close.Post κs a r s → close.Post κs a r′ s′
+    → (r ≡ r′) × (now (s .0) ≡ now (s′ .0)) × (now (s .1 .0) ≡ now (s′ .1 .0))
 unique-close κs a r r′ s s′ p q = halved (a .1 .1 .0) (now (a .1 .0)) p q
 
-pub unique-collect : (κs : _) (a : _) (r r′ : _) (s s′ : _) → collect.Post κs a r s → collect.Post κs a r′ s′ → (r ≡ r′) × (now (s .0) ≡ now (s′ .0)) × (now (s .1 .1 .0) ≡ now (s′ .1 .1 .0))
+pub unique-collect : (κs : _) (a : _) (r r′ : _) (s s′ : _) → collect.Post κs a r s → collect.Post κs a r′ s′
+    → (r ≡ r′) × (now (s .0) ≡ now (s′ .0)) × (now (s .1 .1 .0) ≡ now (s′ .1 .1 .0))
 unique-collect κs a r r′ s s′ p q = answers p q
 
-pub unique-bytes : (κs : _) (a : _) (r r′ : _) (s s′ : _) → bytes.Post κs a r s → bytes.Post κs a r′ s′ → (r ≡ r′) × (now (s .0) ≡ now (s′ .0)) × (now (s .1 .0) ≡ now (s′ .1 .0)) × (now (s .1 .1 .0) ≡ now (s′ .1 .1 .0)) × (now (s .1 .1 .1 .1 .1 .0) ≡ now (s′ .1 .1 .1 .1 .1 .0))
+pub unique-bytes : (κs : _) (a : _) (r r′ : _) (s s′ : _) → bytes.Post κs a r s → bytes.Post κs a r′ s′
+    → (r ≡ r′) × (now (s .0) ≡ now (s′ .0)) × (now (s .1 .0) ≡ now (s′ .1 .0)) × (now (s .1 .1 .0) ≡ now (s′ .1 .1 .0)) ×
+    (now (s .1 .1 .1 .1 .1 .0) ≡ now (s′ .1 .1 .1 .1 .1 .0))
 unique-bytes κs a r r′ s s′ p q =
     let same = answers (p .0) (q .0) in
     (same .0, same .1, p .1 .0 ∙ sym (q .1 .0), p .1 .1 ∙ sym (q .1 .1), same .2)

@@ -107,7 +107,8 @@ module _ (M : Machine served) (x : M .State) (D : Meets served M x) (up : M .tab
   abbrev open-first : List (Call served)
   open-first = other (connect 0 2) ∷ []
 
-  next-reply : shown (M .call (final served M x open-first) (other (collect 0 4096)) .1 .said) ≡ replyOf (collected 0 4096 (connected 0 2 (poweredUp settings) .board))
+  next-reply : shown (M .call (final served M x open-first) (other (collect 0 4096)) .1 .said)
+      ≡ replyOf (collected 0 4096 (connected 0 2 (poweredUp settings) .board))
   next-reply =
       rw (answers-now served M (final served M x open-first) _ (answers-after served M x (begins served M x) (answers-all served M x D) open-first) (other (collect 0 4096)), up)
 
@@ -134,7 +135,8 @@ module _ (M : Machine served) (x : M .State) (D : Meets served M x) (up : M .tab
   shut-out-starving I = not-starving served M x D I 0 4096 ready
 
   pub shut-out-frozen : Frozen served M x → ⊥
-  shut-out-frozen I = not-frozen served M x D I 0 4096 toggle ready toggle-whole (rw up (λ e. omega (arith, ap (λ (p : Board). relayBits (p)) e, changes-once, not-yet)))
+  shut-out-frozen I = not-frozen served M x D I 0 4096 toggle ready toggle-whole
+      (rw up (λ e. omega (arith, ap (λ (p : Board). relayBits p) e, changes-once, not-yet)))
 
   -- the tables after the first message
   first-done : M .tables (M .call x (bytes 0 4096 toggle) .0) ≡ toggled opened

@@ -28,7 +28,8 @@ differ-same false = refl
 
 -- a relay that takes a state if it is chosen, as its row
 pub masked-row : (mask state k : ℕ) (b b′ : Board) (x y : Bool) → k < 8 → x ≡ bitOf mask k → y ≡ bitOf state k
-    → b′ ≡ cond x (putRelay (k + 1) (switched y (relayAt (k + 1) b)) b) b → b′ ≡ set b (relayPlace (k + 1)) (blockedRow mask state k (rowAt (relayPlace (k + 1)) b))
+    → b′ ≡ cond x (putRelay (k + 1) (switched y (relayAt (k + 1) b)) b) b → b′ ≡ set b (relayPlace (k + 1))
+    (blockedRow mask state k (rowAt (relayPlace (k + 1)) b))
 unfolding putRelay relayAt blockedRow
 masked-row mask state k b b′ true y h p q e = e ∙ rw (sym p, q, channel k h)
 masked-row mask state k b b′ false y h p q e = e ∙ rw (sym p) (sym (set-getD b (relayPlace (k + 1)) []))

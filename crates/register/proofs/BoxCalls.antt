@@ -66,13 +66,15 @@ module _ (c room : ℕ) (piece : List ℕ) (b : Board) (hs : Halves) (rooms : Li
 
   -- another connection keeps its half-read message and its room
   pub bytes-half-apart : (d : ℕ) → eqb d c ≡ false → halfAt d (halvesAfter c piece room b hs rooms) ≡ halfAt d hs
-  bytes-half-apart d n = bytes-cases c room piece b hs rooms (λ e hs′ rs. halfAt d hs′ ≡ halfAt d hs) refl refl (λ v. half-apart d c (halfAfter (fed c piece hs rooms .fed .outcome)) hs n)
+  bytes-half-apart d n = bytes-cases c room piece b hs rooms (λ e hs′ rs. halfAt d hs′ ≡ halfAt d hs) refl refl
+      (λ v. half-apart d c (halfAfter (fed c piece hs rooms .fed .outcome)) hs n)
 
   pub room-short : length (fed c piece hs rooms .room) ≤ 1024
   room-short = omega (arith, length-run piece 0 (halfAt c hs) (roomAt c rooms), length-take 1024 (drop (c * 1024) rooms))
 
   pub bytes-room-apart : (d : ℕ) → eqb d c ≡ false → roomAt d (roomsAfter c piece room b hs rooms) ≡ roomAt d rooms
-  bytes-room-apart d n = bytes-cases c room piece b hs rooms (λ e hs′ rs. roomAt d rs ≡ roomAt d rooms) refl refl (λ v. room-apart d c (fed c piece hs rooms .room) rooms room-short n)
+  bytes-room-apart d n = bytes-cases c room piece b hs rooms (λ e hs′ rs. roomAt d rs ≡ roomAt d rooms) refl refl
+      (λ v. room-apart d c (fed c piece hs rooms .room) rooms room-short n)
 
 -- OPENINGS AND CLOSINGS
 shut-is-shut : (c : ℕ) (b : Board) → isOpen c (putLine c shutLine b) ≡ false

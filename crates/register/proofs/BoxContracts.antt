@@ -74,7 +74,12 @@ module _ (c : ℕ) (p : Board) where
 bytes-fits : (c : ℕ) (piece : List ℕ) (b : Board) (hs : Halves) (rooms o : List ℕ) → length (bytesCall c piece (length o) b hs rooms .did .reply) ≤ length o
 bytes-fits c piece b hs rooms o =
     bytes-cases c (length o) piece b hs rooms (λ e hs′ rs. length (e .did .reply) ≤ length o) (omega arith) (omega arith)
-    (λ v. omega (arith, ltb-false (length o) 4096 v, answered-reply c b (fed c piece hs rooms .room) (fed c piece hs rooms .fed .outcome) (room-short c (length o) piece b hs rooms)))
+    (λ v. omega (
+      arith,
+      ltb-false (length o) 4096 v,
+      answered-reply c b (fed c piece hs rooms .room) (fed c piece hs rooms .fed .outcome)
+          (room-short c (length o) piece b hs rooms),
+    ))
 
 collect-fits : (c : ℕ) (b : Board) (o : List ℕ) → length (collectCall c (length o) b .did .reply) ≤ length o
 unfolding collectCall

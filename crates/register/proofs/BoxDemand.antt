@@ -80,7 +80,8 @@ module _ (s : Settings) (hs : Halves) (rooms : List ℕ) (four : length hs ≡ 4
 
   pub box-cut-anywhere : (xs ys : List (Handed served)) → map (uncut served) xs ≡ map (uncut served) ys
       → (ends s hs rooms (handing served box (atPowerUp s hs rooms) xs) .board ≡ ends s hs rooms (handing served box (atPowerUp s hs rooms) ys) .board)
-      × (log served (run s hs rooms (handing served box (atPowerUp s hs rooms) xs)) ≡ log served (run s hs rooms (handing served box (atPowerUp s hs rooms) ys)))
+      × (log served (run s hs rooms (handing served box (atPowerUp s hs rooms) xs)) ≡ log served
+      (run s hs rooms (handing served box (atPowerUp s hs rooms) ys)))
   box-cut-anywhere = cut-anywhere served box-steady box (atPowerUp s hs rooms) box-demand-3
 
   pub box-determined : (M : Machine served) (x : M .State) (calls : List (Call served)) → M .tables x ≡ poweredUp s → Demand3 served M x calls

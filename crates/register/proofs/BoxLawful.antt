@@ -48,18 +48,24 @@ openAt x c = isOpen c (x .board)
 -- the lengths stay
 stay-sound : (x : Held) (k : Call served) → Sound x → Sound (after x k)
 stay-sound x (bytes c room p) S =
-    record { four-halves = bytes-halves c room p (x .board) (x .halves) (x .rooms) ∙ S .four-halves; four-rooms = bytes-rooms c room p (x .board) (x .halves) (x .rooms) ∙ S .four-rooms }
+    record {
+      four-halves = bytes-halves c room p (x .board) (x .halves) (x .rooms) ∙ S .four-halves;
+      four-rooms = bytes-rooms c room p (x .board) (x .halves) (x .rooms) ∙ S .four-rooms;
+    }
 stay-sound x (other (level k v)) S = record { four-halves = S .four-halves; four-rooms = S .four-rooms }
 stay-sound x (other (pass d)) S = record { four-halves = S .four-halves; four-rooms = S .four-rooms }
-stay-sound x (other (connect c rank)) S = record { four-halves = dropped-length c (connected c rank (x .board) .answer) (x .halves) ∙ S .four-halves; four-rooms = S .four-rooms }
-stay-sound x (other (close c)) S = record { four-halves = dropped-length c (closed c (x .board) .answer) (x .halves) ∙ S .four-halves; four-rooms = S .four-rooms }
+stay-sound x (other (connect c rank)) S =
+    record { four-halves = dropped-length c (connected c rank (x .board) .answer) (x .halves) ∙ S .four-halves; four-rooms = S .four-rooms }
+stay-sound x (other (close c)) S =
+    record { four-halves = dropped-length c (closed c (x .board) .answer) (x .halves) ∙ S .four-halves; four-rooms = S .four-rooms }
 stay-sound x (other (collect c room)) S = record { four-halves = S .four-halves; four-rooms = S .four-rooms }
 
 pub only-open : OnlyOpen served
 only-open p c room e = ready p c room e .0
 
 -- a refused piece changes nothing
-refuses : (x : Held) (c room : ℕ) (p : List ℕ) (a : Reply) → refusalOf (x .board) c room ≡ some a → boxCall x (bytes c room p) ≡ (x, answer served 0 (refused a))
+refuses : (x : Held) (c room : ℕ) (p : List ℕ) (a : Reply) → refusalOf (x .board) c room ≡ some a
+    → boxCall x (bytes c room p) ≡ (x, answer served 0 (refused a))
 unfolding bytesCall halvesAfter roomsAfter
 refuses x c room p a e = go (isOpen c (x .board)) (tooShort room) refl refl
   where
@@ -72,10 +78,12 @@ refuses x c room p a e = go (isOpen c (x .board)) (tooShort room) refl refl
 says : (r : Reply) → Answering (r .number) → saying r ≡ did r
 says r a = rw (a .0, a .1)
 
-answered-says : (p : Board) (c n : ℕ) (o : Option Got) → (answered c o p .board, answer served n (saying (replyOf (answered c o p)))) ≡ lawful-spec.fed served p c n o
+answered-says : (p : Board) (c n : ℕ) (o : Option Got) → (answered c o p .board, answer served n (saying (replyOf (answered c o p))))
+    ≡ lawful-spec.fed served p c n o
 answered-says p c n none = refl
 answered-says p c n (some g) =
-    ap (λ s. (servedMessage c g p .board, answer served n s)) (says (replyOf (servedMessage c g p)) (judged-answers p (servedMessage c g p) (message-judged p c g)))
+    ap (λ s. (servedMessage c g p .board, answer served n s))
+    (says (replyOf (servedMessage c g p)) (judged-answers p (servedMessage c g p) (message-judged p c g)))
 
 module _ (x : Held) (c room : ℕ) (p : List ℕ) (S : Sound x) (e : refusalOf (x .board) c room ≡ none) where
   abbrev ρ : Run
@@ -124,7 +132,8 @@ keeps-event x (close d) c u w = by-cases (eqb c d) same (λ n. (dropped-apart d 
 keeps-event x (collect d room) c u w = (refl, refl)
 
 keeps : (x : Held) (k : Call served) (c : ℕ) → feedsTo served c k ≡ false → openAt x c ≡ true → openAt (after x k) c ≡ true → Keeps x k c
-keeps x (bytes d room p) c n u w = (bytes-half-apart d room p (x .board) (x .halves) (x .rooms) c n, bytes-room-apart d room p (x .board) (x .halves) (x .rooms) c n)
+keeps x (bytes d room p) c n u w =
+    (bytes-half-apart d room p (x .board) (x .halves) (x .rooms) c n, bytes-room-apart d room p (x .board) (x .halves) (x .rooms) c n)
 keeps x (other e) c n u w = keeps-event x e c u w
 
 -- one that is opened begins anew; nothing but an opening opens one
@@ -132,7 +141,8 @@ opens-event : (x : Held) (e : Event) (c : ℕ) → openAt x c ≡ false → open
 unfolding levelCall passCall connectCall closeCall collectCall
 opens-event x (level k v) c u w = absurd (true≢false (sym w ∙ unmarked-open (level-event k v (x .board)) c ∙ u))
 opens-event x (pass d) c u w = absurd (true≢false (sym w ∙ unmarked-open (pass-event d (x .board)) c ∙ u))
-opens-event x (connect d rank) c u w = by-cases (eqb c d) same (λ n. absurd (true≢false (sym w ∙ ap (λ (l : Line). l .isOpen) (connect-apart d rank (x .board) c n) ∙ u)))
+opens-event x (connect d rank) c u w = by-cases (eqb c d) same
+    (λ n. absurd (true≢false (sym w ∙ ap (λ (l : Line). l .isOpen) (connect-apart d rank (x .board) c n) ∙ u)))
   where
     same : eqb c d ≡ true → halfAt c (after x (other (connect d rank)) .halves) ≡ start
     same q = rw (eqb-true c d q) (connect-starts d rank (x .board) (x .halves) (rw (eqb-true c d q) at u) (rw (eqb-true c d q) at w))

@@ -95,7 +95,10 @@ inputs-fit {b} f = record { at = λ k. by-cases (isChannel k) (λ h. rw h (f .ro
 
 rows-fit : {b : Board} → CountsFit b → Fit b
 unfolding inputAt
-rows-fit {b} c = record { row = λ j h. subst (λ (i : ℕ). countIn (rowAt i b) ≤ most) {x = inputPlace (j + 1)} {y = j} (omega arith) (rw (channel j h) at (c .at (j + 1))) }
+rows-fit {b} c = record { row = at-row }
+  where
+    at-row : (j : ℕ) → j < firstRelay → countIn (rowAt j b) ≤ most
+    at-row j h = subst (λ (i : ℕ). countIn (rowAt i b) ≤ most) {x = inputPlace (j + 1)} {y = j} (omega arith) (rw (channel j h) at (c .at (j + 1)))
 
 -- ---- rows
 
@@ -119,7 +122,8 @@ on-rows (suc from) n (suc j) f (row ∷ b) h e = on-rows from n j f b h e
 stores : (n : ℕ) (r : List ℕ) (b : Board) → countIn r ≤ most → Fit b → Fit (set b n r)
 stores n r b h f = record { row = λ j l. set-row b n j r h (f .row j l) }
 
-changes : (from n : ℕ) (f : ℕ → List ℕ → List ℕ) (b : Board) → ((k : ℕ) (row : List ℕ) → countIn row ≤ most → countIn (f k row) ≤ most) → Fit b → Fit (onRows from n f b)
+changes : (from n : ℕ) (f : ℕ → List ℕ → List ℕ) (b : Board) → ((k : ℕ) (row : List ℕ) → countIn row ≤ most → countIn (f k row) ≤ most) → Fit b
+    → Fit (onRows from n f b)
 changes from n f b h e = record { row = λ j l. on-rows from n j f b h (e .row j l) }
 
 -- ---- records
@@ -155,13 +159,15 @@ module _ (b : Board) (f : Fit b) where
   unfolding levelOf told
   level-fits k v =
       by-cases (ltb 1 v) (λ h. rw h f)
-      (λ h. rw h (by-cases (hasLevel k (eqb v 1) b) (λ q. rw q f) (λ q. rw q (on-input (told (eqb v 1)) k (raised-small (inputAt k b .level) (eqb v 1) (inputAt k b .count))))))
+      (λ h. rw h (by-cases (hasLevel k (eqb v 1) b) (λ q. rw q f)
+      (λ q. rw q (on-input (told (eqb v 1)) k (raised-small (inputAt k b .level) (eqb v 1) (inputAt k b .count))))))
 
   device-fits : (d : Device) (e : Entry) → e .count ≤ most → Fit (deviceDone d e b .board)
   unfolding deviceDone writeInput writeRelay inputWritten
   device-fits (Din k) e h =
       by-cases (inputSizeFits (e .size) (e .flags))
-      (λ p. rw p (by-cases (ltb 7 (e .flags)) (λ q. rw q f) (λ q. rw q (on-input (inputWritten (e .flags) (e .count)) k (written-small (e .flags) (e .count) (inputAt k b .count) h)))))
+      (λ p. rw p (by-cases (ltb 7 (e .flags)) (λ q. rw q f)
+      (λ q. rw q (on-input (inputWritten (e .flags) (e .count)) k (written-small (e .flags) (e .count) (inputAt k b .count) h)))))
       (λ p. rw p f)
   device-fits (Rout k) e h =
       by-cases (relaySizeFits (e .size) (e .flags))
@@ -226,7 +232,8 @@ message-fits c (frame sum s) b h f = frame-cases c sum s b (λ d. Fit (d .board)
 pub counts-at-power-up : (s : Settings) → CountsFit (poweredUp s)
 unfolding poweredUp
 counts-at-power-up s =
-    inputs-fit (changes firstRelay 8 _ _ (λ k row h. zero-le) (changes firstInput 8 _ _ (λ k row h. zero-le) (record { row = λ j l. rw (zeros rows j) zero-le })))
+    inputs-fit (changes firstRelay 8 _ _ (λ k row h. zero-le)
+    (changes firstInput 8 _ _ (λ k row h. zero-le) (record { row = λ j l. rw (zeros rows j) zero-le })))
   where
     zeros : (n j : ℕ) → countIn (rowAt j (replicate n (replicate 8 0))) ≡ 0
     zeros zero j = refl

@@ -22,31 +22,39 @@ same p q = (p .gives ∙ sym (q .gives), p .leaves ∙ sym (q .leaves))
 pub unique-changes-level : (κs : _) (a : _) (r r′ : _) (s s′ : _) → level.Post κs a r s → level.Post κs a r′ s′ → (r ≡ r′) × (now (s .0) ≡ now (s′ .0))
 unique-changes-level κs a r r′ s s′ p q = same p q
 
-pub unique-changes-close-relay : (κs : _) (a : _) (r r′ : _) (s s′ : _) → close-relay.Post κs a r s → close-relay.Post κs a r′ s′ → (r ≡ r′) × (now (s .0) ≡ now (s′ .0))
+pub unique-changes-close-relay : (κs : _) (a : _) (r r′ : _) (s s′ : _) → close-relay.Post κs a r s → close-relay.Post κs a r′ s′
+    → (r ≡ r′) × (now (s .0) ≡ now (s′ .0))
 unique-changes-close-relay κs a r r′ s s′ p q = same p q
 
-pub unique-changes-open-relay : (κs : _) (a : _) (r r′ : _) (s s′ : _) → open-relay.Post κs a r s → open-relay.Post κs a r′ s′ → (r ≡ r′) × (now (s .0) ≡ now (s′ .0))
+pub unique-changes-open-relay : (κs : _) (a : _) (r r′ : _) (s s′ : _) → open-relay.Post κs a r s → open-relay.Post κs a r′ s′
+    → (r ≡ r′) × (now (s .0) ≡ now (s′ .0))
 unique-changes-open-relay κs a r r′ s s′ p q = same p q
 
-pub unique-changes-toggle-relay : (κs : _) (a : _) (r r′ : _) (s s′ : _) → toggle-relay.Post κs a r s → toggle-relay.Post κs a r′ s′ → (r ≡ r′) × (now (s .0) ≡ now (s′ .0))
+pub unique-changes-toggle-relay : (κs : _) (a : _) (r r′ : _) (s s′ : _) → toggle-relay.Post κs a r s → toggle-relay.Post κs a r′ s′
+    → (r ≡ r′) × (now (s .0) ≡ now (s′ .0))
 unique-changes-toggle-relay κs a r r′ s s′ p q = same p q
 
-pub unique-changes-clear-count : (κs : _) (a : _) (r r′ : _) (s s′ : _) → clear-count.Post κs a r s → clear-count.Post κs a r′ s′ → (r ≡ r′) × (now (s .0) ≡ now (s′ .0))
+pub unique-changes-clear-count : (κs : _) (a : _) (r r′ : _) (s s′ : _) → clear-count.Post κs a r s → clear-count.Post κs a r′ s′
+    → (r ≡ r′) × (now (s .0) ≡ now (s′ .0))
 unique-changes-clear-count κs a r r′ s s′ p q = same p q
 
-pub unique-changes-clear-input-usage : (κs : _) (a : _) (r r′ : _) (s s′ : _) → clear-input-usage.Post κs a r s → clear-input-usage.Post κs a r′ s′ → (r ≡ r′) × (now (s .0) ≡ now (s′ .0))
+pub unique-changes-clear-input-usage : (κs : _) (a : _) (r r′ : _) (s s′ : _) → clear-input-usage.Post κs a r s → clear-input-usage.Post κs a r′ s′
+    → (r ≡ r′) × (now (s .0) ≡ now (s′ .0))
 unique-changes-clear-input-usage κs a r r′ s s′ p q = same p q
 
-pub unique-changes-clear-relay-usage : (κs : _) (a : _) (r r′ : _) (s s′ : _) → clear-relay-usage.Post κs a r s → clear-relay-usage.Post κs a r′ s′ → (r ≡ r′) × (now (s .0) ≡ now (s′ .0))
+pub unique-changes-clear-relay-usage : (κs : _) (a : _) (r r′ : _) (s s′ : _) → clear-relay-usage.Post κs a r s → clear-relay-usage.Post κs a r′ s′
+    → (r ≡ r′) × (now (s .0) ≡ now (s′ .0))
 unique-changes-clear-relay-usage κs a r r′ s s′ p q = same p q
 
 pub unique-changes-block : (κs : _) (a : _) (r r′ : _) (s s′ : _) → block.Post κs a r s → block.Post κs a r′ s′ → (r ≡ r′) × (now (s .0) ≡ now (s′ .0))
 unique-changes-block κs a r r′ s s′ p q = same p q
 
-pub unique-changes-write-input : (κs : _) (a : _) (r r′ : _) (s s′ : _) → write-input.Post κs a r s → write-input.Post κs a r′ s′ → (r ≡ r′) × (now (s .0) ≡ now (s′ .0))
+pub unique-changes-write-input : (κs : _) (a : _) (r r′ : _) (s s′ : _) → write-input.Post κs a r s → write-input.Post κs a r′ s′
+    → (r ≡ r′) × (now (s .0) ≡ now (s′ .0))
 unique-changes-write-input κs a r r′ s s′ p q = same p q
 
-pub unique-changes-write-relay : (κs : _) (a : _) (r r′ : _) (s s′ : _) → write-relay.Post κs a r s → write-relay.Post κs a r′ s′ → (r ≡ r′) × (now (s .0) ≡ now (s′ .0))
+pub unique-changes-write-relay : (κs : _) (a : _) (r r′ : _) (s s′ : _) → write-relay.Post κs a r s → write-relay.Post κs a r′ s′
+    → (r ≡ r′) × (now (s .0) ≡ now (s′ .0))
 unique-changes-write-relay κs a r r′ s s′ p q = same p q
 
 pub unique-changes-refuse : (κs : _) (a : _) (r r′ : _) (s s′ : _) → refuse.Post κs a r s → refuse.Post κs a r′ s′ → r ≡ r′

@@ -57,8 +57,10 @@ unique-plain-connect κs a r r′ s s′ p q = gives p q
 pub unique-plain-close : (κs : _) (a : _) (r r′ : _) (s s′ : _) → close.Post κs a r s → close.Post κs a r′ s′ → (r ≡ r′) × (now (s .0) ≡ now (s′ .0))
 unique-plain-close κs a r r′ s s′ p q = gives p q
 
-pub unique-plain-collect : (κs : _) (a : _) (r r′ : _) (s s′ : _) → collect.Post κs a r s → collect.Post κs a r′ s′ → (r ≡ r′) × (now (s .0) ≡ now (s′ .0)) × (now (s .1 .1 .0) ≡ now (s′ .1 .1 .0))
+pub unique-plain-collect : (κs : _) (a : _) (r r′ : _) (s s′ : _) → collect.Post κs a r s → collect.Post κs a r′ s′
+    → (r ≡ r′) × (now (s .0) ≡ now (s′ .0)) × (now (s .1 .1 .0) ≡ now (s′ .1 .1 .0))
 unique-plain-collect κs a r r′ s s′ p q = does p q
 
-pub unique-serving-serve : (κs : _) (a : _) (r r′ : _) (s s′ : _) → serve.Post κs a r s → serve.Post κs a r′ s′ → (r ≡ r′) × (now (s .0) ≡ now (s′ .0)) × (now (s .1 .1 .1 .0) ≡ now (s′ .1 .1 .1 .0))
+pub unique-serving-serve : (κs : _) (a : _) (r r′ : _) (s s′ : _) → serve.Post κs a r s → serve.Post κs a r′ s′
+    → (r ≡ r′) × (now (s .0) ≡ now (s′ .0)) × (now (s .1 .1 .1 .0) ≡ now (s′ .1 .1 .1 .0))
 unique-serving-serve κs a r r′ s s′ p q = does p q

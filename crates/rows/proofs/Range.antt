@@ -40,7 +40,8 @@ one-more-first k f [] = refl
 one-more-first zero f (row ∷ b) = ap (λ (l : Board). f 0 row ∷ l) (sym (none-yet 0 (λ k. f (suc k)) b))
 one-more-first (suc k) f (row ∷ b) = ap (λ (l : Board). f 0 row ∷ l) (one-more-first k (λ k. f (suc k)) b)
 
-one-more : (from k : ℕ) (f : ℕ → List ℕ → List ℕ) (b : Board) → set (onRows from k f b) (from + k) (f k (getD (onRows from k f b) (from + k) [])) ≡ onRows from (suc k) f b
+one-more : (from k : ℕ) (f : ℕ → List ℕ → List ℕ) (b : Board)
+    → set (onRows from k f b) (from + k) (f k (getD (onRows from k f b) (from + k) [])) ≡ onRows from (suc k) f b
 unfolding onRows
 one-more from k f [] = refl
 one-more zero k f (row ∷ b) = rw zero-add (one-more-first k f (row ∷ b))
@@ -61,7 +62,8 @@ module _ {from n : ℕ} {f : ℕ → List ℕ → List ℕ} {b₀ : Board} where
   range-start = record { in-range = zero-le; so-far = sym (none-yet from f b₀) }
 
   -- the row of turn k stands at place p
-  pub range-turn : {b b′ : Board} {k : ℕ} (p : ℕ) → p ≡ from + k → Ranging from n f b₀ b k → k < n → b′ ≡ set b p (f k (rowAt p b)) → Ranging from n f b₀ b′ (k + 1)
+  pub range-turn : {b b′ : Board} {k : ℕ} (p : ℕ) → p ≡ from + k → Ranging from n f b₀ b k → k < n → b′ ≡ set b p (f k (rowAt p b))
+      → Ranging from n f b₀ b′ (k + 1)
   range-turn {b} {b′} {k} p e m h q = record { in-range = omega arith; so-far = rw (q, e, m .so-far, add-one) (one-more from k f b₀) }
 
   pub row-waits : {b : Board} {k : ℕ} (p : ℕ) → p ≡ from + k → Ranging from n f b₀ b k → rowAt p b ≡ rowAt p b₀

@@ -30,7 +30,15 @@ usageWord = 5
 -- 01, What the box holds, 1: an input in its row, and the words of an input; the last word is kept free
 abbrev pub inputIn : List ℕ → Input
 inputIn w =
-    record { level = isOn (word stateWord w); alarm = isOn (word 1 w); count = word 2 w; setpointOne = word 3 w; setpointTwo = word 4 w; usage = word usageWord w; usageSetpoint = word 6 w }
+    record {
+      level = isOn (word stateWord w);
+      alarm = isOn (word 1 w);
+      count = word 2 w;
+      setpointOne = word 3 w;
+      setpointTwo = word 4 w;
+      usage = word usageWord w;
+      usageSetpoint = word 6 w;
+    }
 
 abbrev pub inputWords : Input → List ℕ
 inputWords i =
