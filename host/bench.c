@@ -77,6 +77,16 @@ static size_t command(uint8_t *content, unsigned action, unsigned parameter)
     return 4;
 }
 
+/* A pulse of one relay where the mask is 0, else of a block. */
+static size_t pulse(uint8_t *content, unsigned channel, unsigned mask, unsigned states, unsigned ms)
+{
+    content[0] = 10;
+    content[1] = mask == 0 ? 6 : 7;
+    put(content + 2, 2, mask == 0 ? channel : mask << 8 | states);
+    put(content + 4, 4, ms);
+    return 8;
+}
+
 static size_t read_devices(uint8_t *content, unsigned n, unsigned devices)
 {
     content[0] = 21;
@@ -169,9 +179,19 @@ typedef struct {
     size_t step;
 } row;
 
-enum { SMALL = HEADER + 4, COMMANDS = 64, READ = HEADER + 3 + 127 * 8, OVERSIZE = HEADER + 65535, SINGLE = 8192, EVENTS = 64 };
+enum {
+    SMALL = HEADER + 4,
+    COMMANDS = 64,
+    READ = HEADER + 3 + 127 * 8,
+    OVERSIZE = HEADER + 65535,
+    SINGLE = 8192,
+    EVENTS = 64,
+    ASKED = HEADER + 8          /* a request for a pulse */
+};
 
 static uint8_t commands[COMMANDS * SMALL];
+static uint8_t short_pulse[ASKED], long_pulse[ASKED];
+static uint8_t short_pulses[WELLACORN_PULSES * ASKED];
 static uint8_t stream[STREAM];
 static uint8_t many[READ];
 static uint8_t oversize[OVERSIZE];
@@ -184,6 +204,9 @@ static const row rows[] = {
     {"pass", "calls", EVENTS, PASS, NULL, EVENTS, 0},
     {"level, pass and collect", "calls", 3 * EVENTS, COLLECT, NULL, EVENTS, 0},
     {"oversize message swallowed", "bytes", OVERSIZE, PIECES, oversize, sizeof oversize, sizeof oversize},
+    {"pulse of 1 ms asked for, 1 ms", "calls", 1 + 1, PULSED, short_pulse, ASKED, 1},
+    {"pulse of 64 ms, 1 ms a call", "calls", 1 + EVENTS, PULSED, long_pulse, ASKED, EVENTS},
+    {"31 pulses asked for, ended in one", "calls", WELLACORN_PULSES + 1, QUEUED, short_pulses, sizeof short_pulses, ASKED},
 };
 
 enum { ROWS = sizeof rows / sizeof rows[0] };
@@ -192,6 +215,11 @@ static void make_messages(void)
 {
     for (size_t i = 0; i < COMMANDS; i++) {
         seal(commands + SMALL * i, command(commands + SMALL * i + HEADER, 3, (unsigned)(1 + i % 8)));
+    }
+    seal(short_pulse, pulse(short_pulse + HEADER, 2, 0, 0, 1));
+    seal(long_pulse, pulse(long_pulse + HEADER, 2, 0, 0, EVENTS));
+    for (unsigned i = 0; i < WELLACORN_PULSES; i++) {
+        seal(short_pulses + ASKED * i, pulse(short_pulses + ASKED * i + HEADER, 1 + i % 8, i % 2 == 0 ? 0 : 0x3C, 0x14, 1));
     }
     make_stream(stream);
     seal(many, read_devices(many + HEADER, 127, 16));
@@ -206,7 +234,7 @@ static workload_tally run(const workload_side *side, const row *r, size_t times)
     return side->does[r->which](r->bytes, r->n, r->step, times);
 }
 
-/* Boards and halves are words alone, without padding: also those that nobody uses must be the same. */
+/* Boards, halves and records have no padding: also words that nobody uses must be the same. */
 static bool same_held(void)
 {
     wellacorn_board one = library_side.board();
@@ -215,6 +243,11 @@ static bool same_held(void)
     for (int c = 0; c < WELLACORN_CONNECTIONS; c++) {
         wellacorn_half a = library_side.half(c);
         wellacorn_half b = peer_side.half(c);
+        same &= memcmp(&a, &b, sizeof a) == 0;
+    }
+    for (int place = 0; place < WELLACORN_PULSES; place++) {
+        wellacorn_pulse a = library_side.pulse(place);
+        wellacorn_pulse b = peer_side.pulse(place);
         same &= memcmp(&a, &b, sizeof a) == 0;
     }
     return same;

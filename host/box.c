@@ -50,8 +50,20 @@ void box_power_up(box *b, const wellacorn_settings *settings, FILE *trace)
     }
 }
 
-void box_time(box *b, uint64_t now)
+static unsigned closed_relays(const box *b)
 {
+    unsigned closed = 0;
+    for (int k = 0; k < WELLACORN_CHANNELS; k++) {
+        closed |= (unsigned)(b->lent.board.relays[k].closed != 0) << k;
+    }
+    return closed;
+}
+
+/* No pulse is asked for while the time is told: as many as are fewer then have ended. */
+passed box_time(box *b, uint64_t now)
+{
+    const wellacorn_queue before = b->lent.board.queue;
+    unsigned closed = closed_relays(b);
     while (now > b->told) {
         uint64_t d = now - b->told;
         uint32_t part = d > UINT32_MAX ? UINT32_MAX : (uint32_t)d;
@@ -61,6 +73,23 @@ void box_time(box *b, uint64_t now)
             fprintf(b->trace, "pass %" PRIu32 "\n", part);
         }
     }
+    return (passed){
+        .first = before.first,
+        .stood = before.standing,
+        .ended = before.standing - b->lent.board.queue.standing,
+        .switched = closed ^ closed_relays(b),
+    };
+}
+
+uint64_t box_next(const box *b)
+{
+    const wellacorn_queue *queue = &b->lent.board.queue;
+    return queue->standing > 0 ? b->told + queue->left : UINT64_MAX;
+}
+
+const wellacorn_pulse *box_pulse(const box *b, size_t first, size_t i)
+{
+    return &b->lent.row[(first + i) % WELLACORN_PULSES];
 }
 
 wellacorn_done box_level(box *b, uint8_t k, uint8_t v)
@@ -85,15 +114,6 @@ wellacorn_done box_close(box *b, uint8_t c)
         fprintf(b->trace, "close %u\n", c);
     }
     return wellacorn_box_close(&b->lent, c);
-}
-
-static unsigned closed_relays(const box *b)
-{
-    unsigned closed = 0;
-    for (int k = 0; k < WELLACORN_CHANNELS; k++) {
-        closed |= (unsigned)(b->lent.board.relays[k].closed != 0) << k;
-    }
-    return closed;
 }
 
 came box_bytes(box *b, uint8_t c, const uint8_t *piece, size_t n)

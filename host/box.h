@@ -20,10 +20,25 @@ typedef struct {
     unsigned switched;                  /* the relays that really changed, relay 1 the lowest bit */
 } came;
 
+/* What a telling of the time came to: so many pulses ended, and behind each the next began, as long as one waited. Their records stand in
+ * the row still. */
+typedef struct {
+    size_t first;                       /* the place in the row of the first that ended */
+    size_t stood;                       /* how many stood before */
+    size_t ended;
+    unsigned switched;                  /* the relays that are not as they were before, relay 1 the lowest bit */
+} passed;
+
 void box_power_up(box *b, const wellacorn_settings *settings, FILE *trace);
 
 /* Tells the box the time: `now` ms have passed since power-up, in all. Each ms is told once. */
-void box_time(box *b, uint64_t now);
+passed box_time(box *b, uint64_t now);
+
+/* When the running pulse ends, in ms since power-up: the time is to be told then, or its relays stay switched. UINT64_MAX if none runs. */
+uint64_t box_next(const box *b);
+
+/* The i-th pulse behind the place `first` of the row, the one at that place being the 0th. */
+const wellacorn_pulse *box_pulse(const box *b, size_t first, size_t i);
 
 wellacorn_done box_level(box *b, uint8_t k, uint8_t v);
 wellacorn_done box_connect(box *b, uint8_t c, uint8_t rank);

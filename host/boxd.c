@@ -6,6 +6,7 @@
 
 #include "box.h"
 #include "commands.h"
+#include "custom.h"
 #include "guests.h"
 #include "line.h"
 #include "login.h"
@@ -82,7 +83,8 @@ static uint64_t clock_ms(const host *h)
 static void tell_time(host *h)
 {
     h->now = clock_ms(h);
-    box_time(&h->box, h->now);
+    passed it = box_time(&h->box, h->now);
+    told_time(&h->box, &it);
 }
 
 /* ---- Connections */
@@ -111,13 +113,38 @@ static void close_line(host *h, uint8_t c, const char *why)
     }
 }
 
+/* ---- Messages that the library does not offer, and that are the host's */
+
+/* The content of such a message; 0 bytes of any other. */
+static size_t not_offered(const host *h, uint8_t c, const came *it, const uint8_t **content)
+{
+    return it->done.answer == WELLACORN_NOT_OFFERED ? box_content(&h->box, c, it, content) : 0;
+}
+
+/* Who has logged in may ask how many pulses stand. Whether it was that. */
+static bool answers_custom(host *h, uint8_t c, const came *it)
+{
+    const uint8_t *content;
+    const wellacorn_board *board = &h->box.lent.board;
+    size_t n = not_offered(h, c, it, &content);
+    if (n == 0 || board->lines[c].rank == 0 || !custom_asks_pulses(content, n)) {
+        return false;
+    }
+    uint8_t answer[CUSTOM_ANSWER], frame[5 + CUSTOM_ANSWER];
+    custom_pulses(answer, board);
+    line_queue(&h->lines[c], frame, frame_of(frame, answer, sizeof answer));
+    told_rest(&h->heard[c], c);
+    say("connection %u asked how many pulses stand: %" PRIu64, c, board->queue.standing);
+    return true;
+}
+
 /* ---- Logins */
 
-/* A message that the library does not offer may be a login, which is the host's. Whether it was. */
+/* Whether it was a login, which is the host's. */
 static bool begins_login(host *h, uint8_t c, const came *it)
 {
     const uint8_t *content;
-    size_t n = it->done.answer == WELLACORN_NOT_OFFERED ? box_content(&h->box, c, it, &content) : 0;
+    size_t n = not_offered(h, c, it, &content);
     if (n == 0 || content[0] != LOGIN_TYPE) {
         return false;
     }
@@ -178,7 +205,7 @@ static void serve(host *h, uint8_t c)
         came it = box_bytes(&h->box, c, piece, n);
         line_took(l, it.done.taken);
         line_queue(l, h->box.reply, it.done.len);
-        if (!begins_login(h, c, &it)) {
+        if (!begins_login(h, c, &it) && !answers_custom(h, c, &it)) {
             told_bytes(&h->heard[c], &h->box, c, &it);
         }
     }
@@ -290,6 +317,7 @@ static int patience(const host *h)
     for (uint8_t c = 0; c < WELLACORN_CONNECTIONS; c++) {
         next = can_serve(h, c) || can_collect(h, c) ? h->now : earlier(next, login_next(&h->logins[c], h->now));
     }
+    next = earlier(next, box_next(&h->box));
     next = earlier(next, guests_next(h->guests));
     next = h->options.quiet ? next : earlier(next, morning_next(&h->morning));
     next = h->accept_after > h->now ? earlier(next, h->accept_after) : next;

@@ -1,7 +1,8 @@
 /* One way to call a box, over the library or, under ENGINE_PEER, over the plain C peer. What uses it is compiled for one of the two.
  *
- * An engine holds the box, and what the last call came to in `answer`, `taken` and `len`. `taken` and `len` are those of the last
- * engine_bytes or engine_collect; read them after no other call.
+ * An engine holds the box but for the row of pulses, which the caller lends in its own length: records of the type engine_pulse, whose
+ * numbers engine_pulse_in gives. It also holds what the last call came to in `answer`, `taken` and `len`. `taken` and `len` are those of the
+ * last engine_bytes or engine_collect; read them after no other call.
  */
 #ifndef ENGINE_H
 #define ENGINE_H
@@ -11,6 +12,8 @@
 #ifdef ENGINE_PEER
 
 #include "peer.h"
+
+typedef peer_pulse engine_pulse;
 
 typedef struct {
     peer_box box;
@@ -29,9 +32,9 @@ static inline void engine_level(engine *e, uint8_t k, uint8_t v)
     e->answer = peer_level(&e->box, k, v);
 }
 
-static inline void engine_pass(engine *e, uint32_t d)
+static inline void engine_pass(engine *e, const engine_pulse *row, size_t records, uint32_t d)
 {
-    e->answer = peer_pass(&e->box, d);
+    e->answer = peer_pass(&e->box, row, records, d);
 }
 
 static inline void engine_connect(engine *e, uint8_t c, uint8_t rank)
@@ -44,21 +47,40 @@ static inline void engine_close(engine *e, uint8_t c)
     e->answer = peer_close(&e->box, c);
 }
 
-static inline void engine_bytes(engine *e, uint8_t c, const uint8_t *piece, size_t piece_len, uint8_t *reply, size_t reply_len)
+static inline void engine_bytes(engine *e, engine_pulse *row, size_t records, uint8_t c, const uint8_t *piece, size_t piece_len,
+                                uint8_t *reply, size_t reply_len)
 {
-    e->answer = peer_bytes(&e->box, c, piece, piece_len, reply, reply_len, &e->taken, &e->len);
+    e->answer = peer_bytes(&e->box, row, records, c, piece, piece_len, reply, reply_len);
+    e->taken = e->box.taken;
+    e->len = e->box.len;
 }
 
 static inline void engine_collect(engine *e, uint8_t c, uint8_t *reply, size_t reply_len)
 {
-    e->answer = peer_collect(&e->box, c, reply, reply_len, &e->taken, &e->len);
+    e->answer = peer_collect(&e->box, c, reply, reply_len);
+    e->taken = e->box.taken;
+    e->len = e->box.len;
+}
+
+static inline wellacorn_queue engine_queue(const engine *e)
+{
+    const peer_queue *q = &e->box.queue;
+    return (wellacorn_queue){
+        .first = q->first,
+        .standing = q->standing,
+        .left = q->left,
+        .remembered = q->remembered,
+        .mask = q->last.mask,
+        .states = q->last.states,
+        .duration = q->last.duration,
+    };
 }
 
 /* What the box holds, as the library has it: the words it does not use are 0. */
 static inline wellacorn_board engine_board(const engine *e)
 {
     const peer_tables *t = &e->box.tables;
-    wellacorn_board b = {.clock = {.time = t->clock}};
+    wellacorn_board b = {.clock = {.time = t->clock}, .queue = engine_queue(e)};
     for (int k = 0; k < WELLACORN_CHANNELS; k++) {
         const peer_input *in = &t->inputs[k];
         b.inputs[k] = (wellacorn_input){
@@ -89,8 +111,12 @@ static inline wellacorn_half engine_half(const engine *e, int c)
 
 #else
 
+typedef wellacorn_pulse engine_pulse;
+
 typedef struct {
-    wellacorn_box box;
+    wellacorn_board board;
+    wellacorn_half halves[WELLACORN_CONNECTIONS];
+    uint8_t rooms[WELLACORN_ROOMS];
     uint8_t answer;
     size_t taken;
     size_t len;
@@ -98,27 +124,27 @@ typedef struct {
 
 static inline void engine_power_up(engine *e, const wellacorn_settings *s)
 {
-    wellacorn_box_power_up(&e->box, *s);
+    wellacorn_power_up(&e->board, *s);
 }
 
 static inline void engine_level(engine *e, uint8_t k, uint8_t v)
 {
-    e->answer = wellacorn_box_level(&e->box, k, v).answer;
+    e->answer = wellacorn_level(&e->board, k, v).answer;
 }
 
-static inline void engine_pass(engine *e, uint32_t d)
+static inline void engine_pass(engine *e, const engine_pulse *row, size_t records, uint32_t d)
 {
-    e->answer = wellacorn_box_pass(&e->box, d).answer;
+    e->answer = wellacorn_pass(&e->board, row, records, d).answer;
 }
 
 static inline void engine_connect(engine *e, uint8_t c, uint8_t rank)
 {
-    e->answer = wellacorn_box_connect(&e->box, c, rank).answer;
+    e->answer = wellacorn_connect(&e->board, e->halves, c, rank).answer;
 }
 
 static inline void engine_close(engine *e, uint8_t c)
 {
-    e->answer = wellacorn_box_close(&e->box, c).answer;
+    e->answer = wellacorn_close(&e->board, e->halves, c).answer;
 }
 
 static inline void engine_came_to(engine *e, wellacorn_done d)
@@ -128,27 +154,39 @@ static inline void engine_came_to(engine *e, wellacorn_done d)
     e->len = d.len;
 }
 
-static inline void engine_bytes(engine *e, uint8_t c, const uint8_t *piece, size_t piece_len, uint8_t *reply, size_t reply_len)
+static inline void engine_bytes(engine *e, engine_pulse *row, size_t records, uint8_t c, const uint8_t *piece, size_t piece_len,
+                                uint8_t *reply, size_t reply_len)
 {
-    engine_came_to(e, wellacorn_box_bytes(&e->box, c, piece, piece_len, reply, reply_len));
+    engine_came_to(e, wellacorn_bytes(&e->board, e->halves, e->rooms, row, records, c, piece, piece_len, reply, reply_len));
 }
 
 static inline void engine_collect(engine *e, uint8_t c, uint8_t *reply, size_t reply_len)
 {
-    engine_came_to(e, wellacorn_box_collect(&e->box, c, reply, reply_len));
+    engine_came_to(e, wellacorn_collect(&e->board, c, reply, reply_len));
 }
 
 static inline wellacorn_board engine_board(const engine *e)
 {
-    return e->box.board;
+    return e->board;
+}
+
+static inline wellacorn_queue engine_queue(const engine *e)
+{
+    return e->board.queue;
 }
 
 static inline wellacorn_half engine_half(const engine *e, int c)
 {
     static const wellacorn_half nothing_read;
-    return e->box.board.lines[c].is_open ? e->box.halves[c] : nothing_read;
+    return e->board.lines[c].is_open ? e->halves[c] : nothing_read;
 }
 
 #endif
+
+/* A record of the row, as the library has it. */
+static inline wellacorn_pulse engine_pulse_in(const engine_pulse *record)
+{
+    return (wellacorn_pulse){.mask = record->mask, .states = record->states, .duration = record->duration};
+}
 
 #endif

@@ -5,7 +5,7 @@
  * Each call is made on a box of which every word is another number, between words that are nobody's. Beside it stands what is expected: the
  * same words, and what the call does to them said by the names of the header. After the call the two must not differ in any word. So each
  * field is seen where some call changes it and no other, and what a call does not name is seen to stay: the unused words, the rooms of the
- * other connections, the words around the box.
+ * other connections, the other records of the row, the words around the box.
  */
 #include "wellacorn.h"
 
@@ -19,8 +19,11 @@
 typedef struct {
     uint64_t before[8];
     wellacorn_box box;
-    uint64_t behind[8];
+    uint64_t behind[8];         /* directly behind the row: as if it had eight records more */
 } lent;
+
+static_assert(offsetof(lent, behind) == offsetof(lent, box) + offsetof(wellacorn_box, row) + WELLACORN_PULSES * sizeof(wellacorn_pulse),
+              "nothing stands between the row and what is behind it");
 
 static lent found, expected;
 static wellacorn_board *const board = &expected.box.board;
@@ -69,12 +72,14 @@ static void came_to(const char *call, wellacorn_done d, uint8_t answer, size_t t
 
 /* ---- What a call finds: a test sets in `expected` what matters to its call, then says `begin`, then what the call does. */
 
+/* No pulse stands. */
 static void scribble(void)
 {
     for (size_t i = 0; i < sizeof expected / 8; i++) {
         uint64_t word = number(i);
         memcpy((unsigned char *)&expected + i * sizeof word, &word, sizeof word);
     }
+    board->queue.standing = 0;
 }
 
 static void begin(void)
@@ -99,12 +104,17 @@ static uint8_t *room_of(uint8_t c)
 }
 
 /* A whole message of which the box keeps the content and makes no reply. */
-static void send(const char *call, uint8_t c, const uint8_t *content, size_t n)
+static void send_for(const char *call, uint8_t c, const uint8_t *content, size_t n, uint8_t answer)
 {
     uint8_t frame[16] = {0x01, 0, (uint8_t)n, 0xFF, 0xFF};
     memcpy(frame + 5, content, n);
     memcpy(room_of(c), content, n);
-    came_to(call, wellacorn_box_bytes(&found.box, c, frame, 5 + n, reply, sizeof reply), WELLACORN_SERVED, 5 + n, 0);
+    came_to(call, wellacorn_box_bytes(&found.box, c, frame, 5 + n, reply, sizeof reply), answer, 5 + n, 0);
+}
+
+static void send(const char *call, uint8_t c, const uint8_t *content, size_t n)
+{
+    send_for(call, c, content, n, WELLACORN_SERVED);
 }
 
 /* ---- The settings: each comes to its place, the board is 0 elsewhere, and nothing besides is written to */
@@ -217,6 +227,169 @@ static void try_collect(uint8_t c)
     came_to("collect", wellacorn_box_collect(&found.box, c, reply, sizeof reply), WELLACORN_SERVED, 0, 102);
 }
 
+/* ---- Pulses: the queue's row of the board, and the records of the row that is lent */
+
+enum { BEFORE = 0xA6, LEFT = 0x07654321 };
+
+/* The relays are as the bits say, and so many pulses stand from the place `first` on: records of numbers of their own, the i-th of those that
+ * stand of relay i % 8 + 1 alone. The running one began with the relays BEFORE, and has LEFT ms left. */
+static void queue_up(uint8_t relays, unsigned first, unsigned standing)
+{
+    for (unsigned k = 0; k < WELLACORN_CHANNELS; k++) {
+        board->inputs[k].level = 0;
+        board->relays[k] = (wellacorn_relay){.closed = relays >> k & 1, .usage = number(k), .usage_setpoint = number(k + 8)};
+    }
+    for (unsigned i = 0; i < standing; i++) {
+        uint16_t mask = (uint16_t)(1u << i % 8);
+        expected.box.row[(first + i) % WELLACORN_PULSES] = (wellacorn_pulse){mask, mask, 0x01020304 + i};
+    }
+    board->queue = (wellacorn_queue){
+        .first = first, .standing = standing, .left = LEFT, .remembered = BEFORE, .mask = 0x12, .states = 0x02, .duration = 0x09080706};
+}
+
+/* A request that comes behind others is written behind them, and does nothing else. */
+static void try_pulse_waits(unsigned first, unsigned standing)
+{
+    wellacorn_queue *q = &board->queue;
+    scribble();
+    listening(0);
+    queue_up(0x5A, first, standing);
+    begin();
+    expected.box.row[(first + standing) % WELLACORN_PULSES] = (wellacorn_pulse){0xC3, 0x41, 0xFEDCBA98};
+    q->standing++;
+    q->mask = 0xC3;
+    q->states = 0x41;
+    q->duration = 0xFEDCBA98;
+    send("a pulse waits", 0, (const uint8_t[]){10, 7, 0xC3, 0x41, 0xFE, 0xDC, 0xBA, 0x98}, 8);
+}
+
+/* One that finds none begins: of relay k, which closes. */
+static void try_pulse_begins(uint8_t k, uint8_t c, unsigned first)
+{
+    const uint8_t closed = (uint8_t)(0x5A & ~(1u << (k - 1)));
+    const uint16_t bit = (uint16_t)(1u << (k - 1));
+    scribble();
+    listening(c);
+    queue_up(closed, first, 0);
+    board->queue.left = board->queue.remembered = 0;
+    begin();
+    expected.box.row[first] = (wellacorn_pulse){bit, bit, 0x10203040};
+    board->queue = (wellacorn_queue){
+        .first = first, .standing = 1, .left = 0x10203040, .remembered = closed, .mask = bit, .states = bit, .duration = 0x10203040};
+    board->relays[k - 1].closed = 1;
+    board->lines[c].due = 1;
+    send("a pulse begins", c, (const uint8_t[]){10, 6, 0, k, 0x10, 0x20, 0x30, 0x40}, 8);
+}
+
+/* The 32nd is refused, whatever its place would be. */
+static void try_queue_full(unsigned first)
+{
+    scribble();
+    listening(0);
+    queue_up(0x5A, first, WELLACORN_PULSES);
+    begin();
+    send_for("the queue is full", 0, (const uint8_t[]){10, 6, 0, 1, 0, 0, 0, 1}, 8, WELLACORN_QUEUE_FULL);
+}
+
+/* d ms for the clock and for the relays that are closed. */
+static void passes(uint32_t d)
+{
+    board->clock.time += d;
+    for (int k = 0; k < WELLACORN_CHANNELS; k++) {
+        board->relays[k].usage += board->relays[k].closed ? d : 0;
+    }
+}
+
+static void try_pulse_runs(unsigned first)
+{
+    scribble();
+    queue_up(0x5A, first, 2);
+    begin();
+    passes(LEFT - 1);
+    board->queue.left = 1;
+    came_to("a pulse runs", wellacorn_box_pass(&found.box, LEFT - 1), WELLACORN_SERVED, 0, 0);
+}
+
+/* Relay 1, which the pulse has closed, returns to what it was, which is open; none waits. */
+static void try_pulse_ends(uint8_t c, unsigned first)
+{
+    wellacorn_queue *q = &board->queue;
+    scribble();
+    listening(c);
+    queue_up(0x5B, first, 1);
+    begin();
+    passes(LEFT);
+    board->relays[0].closed = 0;
+    board->lines[c].due = 1;
+    q->first = (first + 1) % WELLACORN_PULSES;
+    q->standing = q->left = q->remembered = 0;
+    passes(7);
+    came_to("a pulse ends", wellacorn_box_pass(&found.box, LEFT + 7), WELLACORN_SERVED, 0, 0);
+}
+
+/* The same, and relay 2 closes for the one that waits. */
+static void try_pulse_follows(uint8_t c, unsigned first)
+{
+    wellacorn_queue *q = &board->queue;
+    scribble();
+    listening(c);
+    queue_up(0x59, first, 2);
+    begin();
+    passes(LEFT);
+    board->relays[0].closed = 0;
+    board->relays[1].closed = 1;
+    board->lines[c].due = 1;
+    q->first = (first + 1) % WELLACORN_PULSES;
+    q->standing = 1;
+    q->left = 0x01020305;
+    q->remembered = 0x58;
+    came_to("a pulse follows", wellacorn_box_pass(&found.box, LEFT), WELLACORN_SERVED, 0, 0);
+}
+
+/* All of it with the running pulse at one place of the row. */
+static void try_pulses(unsigned first)
+{
+    const uint8_t c = (uint8_t)(first % WELLACORN_CONNECTIONS);
+    for (unsigned standing = 1; standing < WELLACORN_PULSES; standing++) {
+        try_pulse_waits(first, standing);
+    }
+    for (uint8_t k = 1; k <= WELLACORN_CHANNELS; k++) {
+        try_pulse_begins(k, c, first);
+    }
+    try_queue_full(first);
+    try_pulse_runs(first);
+    try_pulse_ends(c, first);
+    try_pulse_follows(c, first);
+}
+
+/* A longer row than is needed: no record from the 32nd on is read or written to. At the place 31 of such a row stands what is behind the box. */
+static void try_longer_row(void)
+{
+    enum { LONGER = WELLACORN_PULSES + 8, LAST = WELLACORN_PULSES - 1 };
+    const uint8_t frame[] = {0x01, 0, 8, 0xFF, 0xFF, 10, 7, 0x03, 0x02, 0, 0, 0, 5};
+    wellacorn_box *box = &found.box;
+    wellacorn_queue *q = &board->queue;
+    scribble();
+    listening(0);
+    queue_up(0x5A, LAST, 1);
+    begin();
+    memcpy(room_of(0), frame + 5, 8);
+    expected.box.row[0] = (wellacorn_pulse){0x03, 0x02, 5};
+    q->standing = 2;
+    q->mask = 0x03;
+    q->states = 0x02;
+    q->duration = 5;
+    came_to("a longer row, bytes",
+            wellacorn_bytes(&box->board, box->halves, box->rooms, box->row, LONGER, 0, frame, sizeof frame, reply, sizeof reply),
+            WELLACORN_SERVED, sizeof frame, 0);
+    passes(LEFT);                           /* relay 1 is open as before; relay 2, which is closed, is to be closed */
+    q->first = 0;
+    q->standing = 1;
+    q->left = 5;
+    q->remembered = 0x5A;
+    came_to("a longer row, pass", wellacorn_pass(&box->board, box->row, LONGER, LEFT), WELLACORN_SERVED, 0, 0);
+}
+
 /* ---- Half-read messages and their rooms */
 
 /* A message too long to be kept, byte by byte: what its header says so far stands in the half. */
@@ -305,6 +478,26 @@ static void try_unchanged(void)
     came_to("keep-alive", wellacorn_box_bytes(&found.box, 0, piece, 2, reply, sizeof reply), WELLACORN_KEEP_ALIVE, 1, 0);
 }
 
+/* A row that is too short, down to none: nothing is changed and nothing taken. */
+static void try_short_row(unsigned standing)
+{
+    static const uint8_t frame[] = {0x01, 0, 8, 0xFF, 0xFF, 10, 6, 0, 1, 0, 0, 0, 1};
+    wellacorn_box *box = &found.box;
+    scribble();
+    listening(0);
+    queue_up(0x5A, 3, standing);
+    begin();
+    for (size_t records = 0; records < WELLACORN_PULSES; records += WELLACORN_PULSES - 1) {
+        came_to("pass, short row", wellacorn_pass(&box->board, box->row, records, UINT32_MAX), WELLACORN_SHORT_BUFFER, 0, 0);
+        came_to("bytes, short row",
+                wellacorn_bytes(&box->board, box->halves, box->rooms, box->row, records, 0, frame, sizeof frame, reply, sizeof reply),
+                WELLACORN_SHORT_BUFFER, 0, 0);
+    }
+    came_to("bytes, short row, no connection",
+            wellacorn_bytes(&box->board, box->halves, box->rooms, box->row, 0, 4, frame, sizeof frame, reply, sizeof reply),
+            WELLACORN_NO_CONNECTION, 0, 0);
+}
+
 int main(void)
 {
     setvbuf(stdout, NULL, _IOLBF, 0);   /* what differs is seen even if a later call ends badly because of it */
@@ -327,7 +520,13 @@ int main(void)
         try_room(c);
         try_done(c);
     }
+    for (unsigned first = 0; first < WELLACORN_PULSES; first++) {
+        try_pulses(first);
+    }
+    try_longer_row();
     try_unchanged();
+    try_short_row(0);
+    try_short_row(1);
 
     if (differences > 0) {
         printf("layout: %u differences\n", differences);

@@ -146,6 +146,18 @@ static bool put_relay(peer_relay *relay, bool closed)
     return changed;
 }
 
+/* "Only masked relays take the state." */
+static bool change_block(peer_relay *relays, unsigned mask, unsigned state)
+{
+    bool changed = false;
+    for (int k = 0; k < WELLACORN_CHANNELS; k++) {
+        if (mask >> k & 1) {
+            changed |= put_relay(&relays[k], state >> k & 1);
+        }
+    }
+    return changed;
+}
+
 static uint64_t grown(uint64_t ms, uint32_t d)
 {
     uint64_t sum = ms + d;
@@ -165,6 +177,36 @@ static uint8_t count_alarm(uint32_t count, uint32_t setpoint)
 static uint8_t usage_alarm(uint64_t usage, uint64_t setpoint)
 {
     return (setpoint != 0) & (usage >= setpoint);
+}
+
+/* ---- Pulses. "Each beginning and end is a change of its own": both say whether a relay really changed. */
+
+static bool begin_pulse(peer_box *box, const peer_pulse *pulse)
+{
+    peer_relay *relays = box->tables.relays;
+    unsigned remembered = 0;
+    for (int k = 0; k < WELLACORN_CHANNELS; k++) {
+        remembered |= (unsigned)relays[k].closed << k;
+    }
+    box->queue.remembered = (uint8_t)remembered;
+    box->queue.left = pulse->duration;
+    return change_block(relays, pulse->mask, pulse->states);
+}
+
+/* The running pulse ends, and the next begins, if one waits. */
+static bool end_pulse(peer_box *box, const peer_pulse *row)
+{
+    peer_queue *queue = &box->queue;
+    bool changed = change_block(box->tables.relays, row[queue->first].mask, queue->remembered);
+    queue->first = queue->first == WELLACORN_PULSES - 1 ? 0 : queue->first + 1;
+    queue->standing--;
+    if (queue->standing > 0) {
+        changed |= begin_pulse(box, &row[queue->first]);
+    } else {
+        queue->left = 0;
+        queue->remembered = 0;
+    }
+    return changed;
 }
 
 /* ---- Devices: inputs at 0 to 7, relays at 8 to 15 */
@@ -307,28 +349,86 @@ static uint8_t set_clock(peer_box *box, const uint8_t *content, size_t n)
     return WELLACORN_SERVED;
 }
 
-/* "Only masked relays take the state." */
-static bool change_block(peer_relay *relays, unsigned mask, unsigned state)
+enum action {
+    CLOSE = 1,
+    OPEN = 2,
+    TOGGLE = 3,
+    CLEAR_COUNT = 5,
+    PULSE = 6,
+    PULSE_BLOCK = 7,
+    CLEAR_INPUT_USAGE = 8,
+    CLEAR_RELAY_USAGE = 9,
+    BLOCK = 10
+};
+
+static bool is_channel(unsigned channel)
 {
-    bool changed = false;
-    for (int k = 0; k < WELLACORN_CHANNELS; k++) {
-        if (mask >> k & 1) {
-            changed |= put_relay(&relays[k], state >> k & 1);
-        }
-    }
-    return changed;
+    return channel >= 1 && channel <= WELLACORN_CHANNELS;
 }
 
-static uint8_t command(peer_box *box, const uint8_t *content, size_t n)
+/* A pulse of one relay closes it. */
+static uint8_t ask_pulse(peer_box *box, peer_pulse *row, const uint8_t *content, size_t n)
 {
-    enum { CLOSE = 1, OPEN = 2, TOGGLE = 3, CLEAR_COUNT = 5, CLEAR_INPUT_USAGE = 8, CLEAR_RELAY_USAGE = 9, BLOCK = 10 };
+    peer_queue *queue = &box->queue;
 
+    if (n != 8) {
+        return WELLACORN_BAD_LENGTH;
+    }
+    peer_pulse asked = {.mask = content[2], .states = content[3], .duration = get32(content + 4)};
+    if (content[1] == PULSE) {
+        unsigned channel = get16(content + 2);
+        if (!is_channel(channel)) {
+            return WELLACORN_OUT_OF_RANGE;
+        }
+        asked.mask = asked.states = (uint8_t)(1u << (channel - 1));
+    }
+    if (asked.duration == 0) {
+        return WELLACORN_OUT_OF_RANGE;
+    }
+    if (queue->standing == WELLACORN_PULSES) {
+        return WELLACORN_QUEUE_FULL;
+    }
+    row[(queue->first + queue->standing) % WELLACORN_PULSES] = asked;
+    queue->last = asked;
+    if (queue->standing++ == 0 && begin_pulse(box, &asked)) {
+        mark_due(box);
+    }
+    return WELLACORN_SERVED;
+}
+
+/* Says whether a relay really changed. */
+static bool act_on(peer_input *in, peer_relay *relay, unsigned action)
+{
+    switch (action) {
+    case CLOSE:
+        return put_relay(relay, true);
+    case OPEN:
+        return put_relay(relay, false);
+    case TOGGLE:
+        return put_relay(relay, !relay->closed);
+    case CLEAR_COUNT:
+        in->count = 0;
+        return false;
+    case CLEAR_INPUT_USAGE:
+        in->usage = 0;
+        return false;
+    default:
+        relay->usage = 0;
+        return false;
+    }
+}
+
+static uint8_t command(peer_box *box, peer_pulse *row, const uint8_t *content, size_t n)
+{
     if (n < 2) {
         return WELLACORN_BAD_LENGTH;
     }
     unsigned action = content[1];
-    if (action < CLOSE || action > BLOCK || action == 4 || action == 6 || action == 7) {
+    if (action < CLOSE || action > BLOCK || action == 4) {
         return WELLACORN_OUT_OF_RANGE;
+    }
+    if (action == PULSE || action == PULSE_BLOCK) {
+        return ask_pulse(box, row, content, n);
     }
     if (n != 4) {
         return WELLACORN_BAD_LENGTH;
@@ -338,31 +438,10 @@ static uint8_t command(peer_box *box, const uint8_t *content, size_t n)
         changed = change_block(box->tables.relays, content[2], content[3]);
     } else {
         unsigned channel = get16(content + 2);
-        if (channel < 1 || channel > WELLACORN_CHANNELS) {
+        if (!is_channel(channel)) {
             return WELLACORN_OUT_OF_RANGE;
         }
-        peer_input *in = &box->tables.inputs[channel - 1];
-        peer_relay *relay = &box->tables.relays[channel - 1];
-        switch (action) {
-        case CLOSE:
-            changed = put_relay(relay, true);
-            break;
-        case OPEN:
-            changed = put_relay(relay, false);
-            break;
-        case TOGGLE:
-            changed = put_relay(relay, !relay->closed);
-            break;
-        case CLEAR_COUNT:
-            in->count = 0;
-            break;
-        case CLEAR_INPUT_USAGE:
-            in->usage = 0;
-            break;
-        case CLEAR_RELAY_USAGE:
-            relay->usage = 0;
-            break;
-        }
+        changed = act_on(&box->tables.inputs[channel - 1], &box->tables.relays[channel - 1], action);
     }
     if (changed) {
         mark_due(box);
@@ -506,7 +585,7 @@ static uint8_t enumerate_devices(const uint8_t *content, size_t n, uint8_t **end
 }
 
 /* A whole message: type, then rank, then its own rules. */
-static uint8_t serve(peer_box *box, peer_line *line, const uint8_t *content, size_t n, uint8_t **end)
+static uint8_t serve(peer_box *box, peer_line *line, peer_pulse *row, const uint8_t *content, size_t n, uint8_t **end)
 {
     unsigned type = n == 0 ? 0 : content[0];
     unsigned needed = 1;
@@ -533,7 +612,7 @@ static uint8_t serve(peer_box *box, peer_line *line, const uint8_t *content, siz
     case SET_CLOCK:
         return set_clock(box, content, n);
     case COMMAND:
-        return command(box, content, n);
+        return command(box, row, content, n);
     case READ_DEVICES:
         return read_devices(box, content, n, end);
     case WRITE_DEVICES:
@@ -544,7 +623,7 @@ static uint8_t serve(peer_box *box, peer_line *line, const uint8_t *content, siz
 }
 
 /* A message that has ended. Its content is not there if it is too long. */
-static uint8_t judge(peer_box *box, peer_line *line, const uint8_t *content, size_t n, unsigned sum, uint8_t *reply, size_t *len)
+static uint8_t judge(peer_box *box, peer_line *line, peer_pulse *row, const uint8_t *content, size_t n, unsigned sum, uint8_t *reply)
 {
     if (n > WELLACORN_CONTENT) {
         return WELLACORN_TOO_LONG;
@@ -553,10 +632,10 @@ static uint8_t judge(peer_box *box, peer_line *line, const uint8_t *content, siz
         return WELLACORN_BAD_CHECKSUM;
     }
     uint8_t *end = reply + HEADER;
-    uint8_t answer = serve(box, line, content, n, &end);
+    uint8_t answer = serve(box, line, row, content, n, &end);
     size_t written = (size_t)(end - reply) - HEADER;
     if (written > 0) {
-        *len = seal(reply, written);
+        box->len = seal(reply, written);
     }
     return answer;
 }
@@ -592,9 +671,8 @@ uint8_t peer_level(peer_box *box, uint8_t k, uint8_t v)
     return WELLACORN_SERVED;
 }
 
-uint8_t peer_pass(peer_box *box, uint32_t d)
+static void grow(peer_tables *tables, uint32_t d)
 {
-    peer_tables *tables = &box->tables;
     tables->clock = grown(tables->clock, d);
     for (int k = 0; k < WELLACORN_CHANNELS; k++) {
         if (tables->inputs[k].level) {
@@ -604,6 +682,36 @@ uint8_t peer_pass(peer_box *box, uint32_t d)
             tables->relays[k].usage = grown(tables->relays[k].usage, d);
         }
     }
+}
+
+/* Goes from end to end of the pulses that end within d ms. Gives the ms behind the last of them, in which nothing has grown so far. */
+static uint32_t run_pulses(peer_box *box, const peer_pulse *row, uint32_t d)
+{
+    peer_queue *queue = &box->queue;
+    bool changed = false;
+    while (queue->standing > 0 && queue->left <= d) {
+        d -= queue->left;
+        grow(&box->tables, queue->left);
+        changed |= end_pulse(box, row);
+    }
+    if (queue->standing > 0) {
+        queue->left -= d;
+    }
+    if (changed) {
+        mark_due(box);
+    }
+    return d;
+}
+
+uint8_t peer_pass(peer_box *box, const peer_pulse *row, size_t records, uint32_t d)
+{
+    if (records < WELLACORN_PULSES) {
+        return WELLACORN_SHORT_BUFFER;
+    }
+    if (box->queue.standing > 0) {
+        d = run_pulses(box, row, d);
+    }
+    grow(&box->tables, d);
     return WELLACORN_SERVED;
 }
 
@@ -641,10 +749,10 @@ uint8_t peer_close(peer_box *box, uint8_t c)
     return WELLACORN_SERVED;
 }
 
-uint8_t peer_collect(peer_box *box, uint8_t c, uint8_t *reply, size_t reply_len, size_t *taken, size_t *len)
+uint8_t peer_collect(peer_box *box, uint8_t c, uint8_t *reply, size_t reply_len)
 {
-    *taken = 0;
-    *len = 0;
+    box->taken = 0;
+    box->len = 0;
     if (!is_open(box, c)) {
         return WELLACORN_NO_CONNECTION;
     }
@@ -657,7 +765,7 @@ uint8_t peer_collect(peer_box *box, uint8_t c, uint8_t *reply, size_t reply_len,
     }
     line->due = false;
     const uint8_t *end = put_monitor(reply + HEADER, &box->tables);
-    *len = seal(reply, (size_t)(end - reply) - HEADER);
+    box->len = seal(reply, (size_t)(end - reply) - HEADER);
     return WELLACORN_SERVED;
 }
 
@@ -681,15 +789,15 @@ static void read_header(peer_half *half, uint8_t byte)
     }
 }
 
-uint8_t peer_bytes(peer_box *box, uint8_t c, const uint8_t *piece, size_t piece_len, uint8_t *reply, size_t reply_len, size_t *taken,
-                   size_t *len)
+uint8_t peer_bytes(peer_box *box, peer_pulse *row, size_t records, uint8_t c, const uint8_t *piece, size_t piece_len, uint8_t *reply,
+                   size_t reply_len)
 {
-    *taken = 0;
-    *len = 0;
+    box->taken = 0;
+    box->len = 0;
     if (!is_open(box, c)) {
         return WELLACORN_NO_CONNECTION;
     }
-    if (reply_len < WELLACORN_REPLY) {
+    if (reply_len < WELLACORN_REPLY || records < WELLACORN_PULSES) {
         return WELLACORN_SHORT_BUFFER;
     }
     if (piece_len == 0) {
@@ -700,21 +808,21 @@ uint8_t peer_bytes(peer_box *box, uint8_t c, const uint8_t *piece, size_t piece_
 
     if (half->got == 0) {
         if (piece[0] != START) {
-            *taken = 1;
+            box->taken = 1;
             return piece[0] == ACK ? WELLACORN_KEEP_ALIVE : WELLACORN_STRAY;
         }
         /* A message that lies whole in the piece is served from there. */
         if (piece_len >= HEADER && piece_len - HEADER >= get16(piece + 1)) {
             size_t n = get16(piece + 1);
-            *taken = HEADER + n;
-            return judge(box, &from->line, piece + HEADER, n, get16(piece + 3), reply, len);
+            box->taken = HEADER + n;
+            return judge(box, &from->line, row, piece + HEADER, n, get16(piece + 3), reply);
         }
     }
 
     size_t at = 0;
     while (half->got < HEADER) {
         if (at == piece_len) {
-            *taken = at;
+            box->taken = at;
             return WELLACORN_WAITING;
         }
         read_header(half, piece[at++]);
@@ -725,11 +833,11 @@ uint8_t peer_bytes(peer_box *box, uint8_t c, const uint8_t *piece, size_t piece_
         memcpy(from->room + (half->got - HEADER), piece + at, here);
     }
     half->got += (uint32_t)here;
-    *taken = at + here;
+    box->taken = at + here;
     if (here < missing) {
         return WELLACORN_WAITING;
     }
     peer_half ended = *half;
     *half = nothing_read;
-    return judge(box, &from->line, from->room, ended.len, ended.sum, reply, len);
+    return judge(box, &from->line, row, from->room, ended.len, ended.sum, reply);
 }

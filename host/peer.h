@@ -50,21 +50,39 @@ typedef struct {
     uint8_t room[WELLACORN_CONTENT];    /* the content bytes of the half-read message */
 } peer_connection;
 
+/* A pulse in the row that is lent: a ring of WELLACORN_PULSES places. */
+typedef struct {
+    uint8_t mask;
+    uint8_t states;
+    uint32_t duration;
+} peer_pulse;
+
+typedef struct {
+    uint8_t first;          /* the running pulse's place */
+    uint8_t standing;       /* the running one included */
+    uint8_t remembered;     /* the relays when it began, lowest bit relay 1 */
+    uint32_t left;          /* ms up to its end: not 0 while one runs */
+    peer_pulse last;        /* accepted last */
+} peer_queue;
+
 typedef struct {
     peer_tables tables;
+    peer_queue queue;
     peer_connection connections[WELLACORN_CONNECTIONS];
+    size_t taken;           /* of the last peer_bytes or peer_collect: bytes taken of the piece */
+    size_t len;             /* and the reply's length */
 } peer_box;
 
-/* Each answers as the library's function of that name. */
+/* Each answers as the library's function of that name. A row of `records` pulses is lent as there, under WELLACORN_PULSES the answer is 4. */
 void peer_power_up(peer_box *box, const wellacorn_settings *settings);
 uint8_t peer_level(peer_box *box, uint8_t k, uint8_t v);
-uint8_t peer_pass(peer_box *box, uint32_t d);
+uint8_t peer_pass(peer_box *box, const peer_pulse *row, size_t records, uint32_t d);
 uint8_t peer_connect(peer_box *box, uint8_t c, uint8_t rank);
 uint8_t peer_close(peer_box *box, uint8_t c);
 
-/* They always set *taken, the bytes taken of the piece, and *len, the reply's length. */
-uint8_t peer_bytes(peer_box *box, uint8_t c, const uint8_t *piece, size_t piece_len, uint8_t *reply, size_t reply_len, size_t *taken,
-                   size_t *len);
-uint8_t peer_collect(peer_box *box, uint8_t c, uint8_t *reply, size_t reply_len, size_t *taken, size_t *len);
+/* They always set `taken` and `len` of the box. By pointers of their own these would no longer fit registers beside the row. */
+uint8_t peer_bytes(peer_box *box, peer_pulse *row, size_t records, uint8_t c, const uint8_t *piece, size_t piece_len, uint8_t *reply,
+                   size_t reply_len);
+uint8_t peer_collect(peer_box *box, uint8_t c, uint8_t *reply, size_t reply_len);
 
 #endif

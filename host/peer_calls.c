@@ -1,9 +1,9 @@
 /* The library's calls over the plain C peer, for measuring: a program that is linked with this in place of the archive is the same program over
- * the peer. It has one box, whatever the host lends.
+ * the peer. It has one box and one row of pulses, whatever the host lends; of the lent row only the length counts.
  *
  * What is lent shows what the peer holds. After bytes and a collection only what the reference host reads then is written there: the relays'
- * states, what is due, how far the message has been read and its content. So showing takes some ns a message. The rest follows with the next
- * other call.
+ * states, what is due, the queue and the pulse that was accepted, how far the message has been read and its content. So showing takes some ns
+ * a message. The rest follows with the next other call.
  */
 #define ENGINE_PEER
 #include "engine.h"
@@ -13,6 +13,7 @@
 enum { HEADER = 5 };
 
 static engine box;
+static engine_pulse pulses[WELLACORN_PULSES];
 
 static wellacorn_done came_to(size_t taken, size_t len)
 {
@@ -33,6 +34,17 @@ static void show(wellacorn_board *board)
     for (int c = 0; c < WELLACORN_CONNECTIONS; c++) {
         board->lines[c].due = box.box.connections[c].line.due;
     }
+    board->queue = engine_queue(&box);
+}
+
+/* A record is written where a pulse was accepted: `standing` stood before. */
+static void show_accepted(wellacorn_pulse *row, uint64_t standing)
+{
+    const wellacorn_queue queue = engine_queue(&box);
+    if (queue.standing > standing) {
+        size_t place = (queue.first + standing) % WELLACORN_PULSES;
+        row[place] = engine_pulse_in(&pulses[place]);
+    }
 }
 
 void wellacorn_power_up(wellacorn_board *board, wellacorn_settings s)
@@ -47,9 +59,10 @@ wellacorn_done wellacorn_level(wellacorn_board *board, uint8_t k, uint8_t v)
     return told(board);
 }
 
-wellacorn_done wellacorn_pass(wellacorn_board *board, uint32_t d)
+wellacorn_done wellacorn_pass(wellacorn_board *board, const wellacorn_pulse *row, size_t records, uint32_t d)
 {
-    engine_pass(&box, d);
+    (void)row;
+    engine_pass(&box, pulses, records, d);
     return told(board);
 }
 
@@ -72,16 +85,21 @@ wellacorn_done wellacorn_close(wellacorn_board *board, wellacorn_half halves[WEL
 }
 
 wellacorn_done wellacorn_bytes(wellacorn_board *board, wellacorn_half halves[WELLACORN_CONNECTIONS], uint8_t rooms[WELLACORN_ROOMS],
-                               uint8_t c, const uint8_t *piece, size_t piece_len, uint8_t *reply, size_t reply_len)
+                               wellacorn_pulse *row, size_t records, uint8_t c, const uint8_t *piece, size_t piece_len, uint8_t *reply,
+                               size_t reply_len)
 {
-    engine_bytes(&box, c, piece, piece_len, reply, reply_len);
+    uint64_t standing = engine_queue(&box).standing;
+    engine_bytes(&box, pulses, records, c, piece, piece_len, reply, reply_len);
     if (c < WELLACORN_CONNECTIONS) {
         size_t read = halves[c].got + box.taken;
         if (read > HEADER && read <= HEADER + WELLACORN_CONTENT) {
-            memcpy(rooms + (size_t)WELLACORN_CONTENT * c, box.box.connections[c].room, read - HEADER);
+            /* The peer serves a message that lies whole in the piece from there, and leaves its room as it is. */
+            const uint8_t *content = halves[c].got == 0 ? piece + HEADER : box.box.connections[c].room;
+            memcpy(rooms + (size_t)WELLACORN_CONTENT * c, content, read - HEADER);
         }
         halves[c] = engine_half(&box, c);
     }
+    show_accepted(row, standing);
     show(board);
     return came_to(box.taken, box.len);
 }

@@ -14,9 +14,10 @@ enum {
     CAP = 65536,                                /* the longest reply buffer that can be asked for */
     GUARD = WELLACORN_REPLY,                    /* bytes behind the reply buffer that are watched too: a whole reply's */
     FILL = 0xA5,                                /* what the reply buffer holds before a call */
+    RECORDS = 64,                               /* the longest row of pulses that can be asked for; so many records are kept and watched */
     DECIMALS = 20,                              /* decimal digits of a number at most, leading zeros included */
     WORDS = 41,                                 /* words of a line at most: `power` and 40 numbers */
-    LONGEST = 6 + 2 * (DECIMALS + 1) + DIGITS,  /* the longest line that is not `?`: `bytes`, two numbers, a piece */
+    LONGEST = 6 + 3 * (DECIMALS + 1) + DIGITS,  /* the longest line that is not `?`: `bytes`, two numbers, a piece, a number */
     IN = 1 << 18,
     OUT = 1 << 18,
     PRINTED = 2 * CAP + 1024                    /* more than the longest line that is printed */
@@ -172,6 +173,15 @@ static bool capacity(word w, size_t *value)
     return good;
 }
 
+/* The length of the row of pulses: the last of n words, which has the place `at`. A line that ends before it lends as many as are needed. */
+static bool row_length(const word *words, size_t n, size_t at, size_t *value)
+{
+    uint64_t x = WELLACORN_PULSES;
+    bool good = n == at || (n == at + 1 && number(words[at], RECORDS, &x));
+    *value = (size_t)x;
+    return good;
+}
+
 /* The value of an upper-case hexadecimal digit, 16 for any other character. */
 static unsigned hex_digit(char ch)
 {
@@ -272,14 +282,46 @@ static bool level(const word *words, size_t n)
     return true;
 }
 
+/* The row of pulses: one that all calls share, and one for the calls that are lent too short a row. Both are watched in all their records,
+ * those too that are not lent. */
+static engine_pulse shared[RECORDS], too_short[RECORDS];
+
+/* What the call must leave: both rows and the queue before it. */
+static engine_pulse shared_before[RECORDS], too_short_before[RECORDS];
+static wellacorn_queue queue_before;
+
+/* The row that is lent for a call. */
+static engine_pulse *lend_row(size_t records)
+{
+    memset(too_short, FILL, sizeof too_short);
+    memcpy(shared_before, shared, sizeof shared);
+    memcpy(too_short_before, too_short, sizeof too_short);
+    queue_before = engine_queue(&box);
+    return records < WELLACORN_PULSES ? too_short : shared;
+}
+
+/* Whether a record changed that the call must leave: every one, but where a pulse was accepted the one that holds it. */
+static bool row_spoilt(void)
+{
+    if (engine_queue(&box).standing == queue_before.standing + 1) {
+        size_t place = (queue_before.first + queue_before.standing) % WELLACORN_PULSES;
+        shared_before[place] = shared[place];
+    }
+    return memcmp(shared, shared_before, sizeof shared) != 0 || memcmp(too_short, too_short_before, sizeof too_short) != 0;
+}
+
 static bool pass(const word *words, size_t n)
 {
     uint32_t d;
-    if (n != 1 || !four_bytes(words[0], &d)) {
+    size_t records;
+    if (n < 1 || !four_bytes(words[0], &d) || !row_length(words, n, 1, &records)) {
         return false;
     }
-    engine_pass(&box, d);
+    engine_pass(&box, lend_row(records), records, d);
     print_number(box.answer);
+    if (row_spoilt()) {
+        print_text(" spoilt");
+    }
     return true;
 }
 
@@ -289,8 +331,9 @@ static void fill_reply(size_t cap)
     memset(reply, FILL, cap + GUARD);
 }
 
-/* Reply length, reply, and whether a byte outside the reply has changed. A length beyond the buffer is no reply's, so it is spoilt too. */
-static void print_reply(size_t cap)
+/* Reply length, reply, and whether a byte outside the reply has changed, or something else is `spoilt`. A length beyond the buffer is no
+ * reply's, so it is spoilt too. */
+static void print_reply(size_t cap, bool spoilt)
 {
     size_t shown = box.len <= cap ? box.len : cap;
     uint8_t changed = 0;        /* bits, not a bool: this is the tool's longest loop, and compilers make wide steps of it so */
@@ -301,7 +344,7 @@ static void print_reply(size_t cap)
     print_number(box.len);
     print_char(' ');
     print_hex(reply, shown);
-    if (changed != 0 || box.len > cap) {
+    if (spoilt || changed != 0 || box.len > cap) {
         print_text(" spoilt");
     }
 }
@@ -316,23 +359,23 @@ static bool collect(const word *words, size_t n)
     fill_reply(cap);
     engine_collect(&box, c, reply, cap);
     print_number(box.answer);
-    print_reply(cap);
+    print_reply(cap, false);
     return true;
 }
 
 static bool bytes(const word *words, size_t n)
 {
     uint8_t c;
-    size_t cap;
-    if (n != 3 || !byte(words[0], &c) || !capacity(words[1], &cap) || !read_piece(words[2])) {
+    size_t cap, records;
+    if (n < 3 || !byte(words[0], &c) || !capacity(words[1], &cap) || !read_piece(words[2]) || !row_length(words, n, 3, &records)) {
         return false;
     }
     fill_reply(cap);
-    engine_bytes(&box, c, piece, piece_len, reply, cap);
+    engine_bytes(&box, lend_row(records), records, c, piece, piece_len, reply, cap);
     print_number(box.answer);
     print_char(' ');
     print_number(box.taken);
-    print_reply(cap);
+    print_reply(cap, row_spoilt());
     return true;
 }
 
@@ -342,6 +385,24 @@ static void print_numbers(const uint64_t *numbers, size_t n)
     for (size_t i = 0; i < n; i++) {
         print_char(i == 0 ? ' ' : ',');
         print_number(numbers[i]);
+    }
+}
+
+/* The pulses that stand, the running one first; then the relays that it will give back. A number that no queue has is shown, its records
+ * once at most. */
+static void print_queue(const wellacorn_queue *q)
+{
+    uint16_t running = 0;
+    print_text(" P ");
+    print_number(q->standing);
+    for (size_t i = 0; i < q->standing && i < WELLACORN_PULSES; i++) {
+        wellacorn_pulse pulse = engine_pulse_in(&shared[(q->first + i) % WELLACORN_PULSES]);
+        running = i == 0 ? pulse.mask : running;
+        print_numbers((const uint64_t[]){pulse.mask, pulse.states & pulse.mask, i == 0 ? q->left : pulse.duration}, 3);
+    }
+    if (q->standing > 0) {
+        print_text(" was ");
+        print_number(q->remembered & running);
     }
 }
 
@@ -369,6 +430,7 @@ static bool state(const word *words, size_t n)
         const wellacorn_line *line = &b.lines[c];
         print_numbers((const uint64_t[]){line->is_open, line->rank, line->monitor, line->due, engine_half(&box, c).got}, 5);
     }
+    print_queue(&b.queue);
     return true;
 }
 
@@ -427,6 +489,7 @@ int main(void)
     size_t held = 0;            /* bytes in the buffer: the beginning of a line */
     bool dropped = false;       /* an earlier part of this line was dropped */
 
+    memset(shared, FILL, sizeof shared);    /* it need not be cleared */
     engine_power_up(&box, &all_zero);
     for (size_t n; (n = read_more(held)) > 0;) {
         size_t from = 0, scan = held;

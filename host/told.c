@@ -1,4 +1,4 @@
-/* What each message did, in words. */
+/* What each message did, and which pulses began and ended, in words. */
 #define _POSIX_C_SOURCE 200809L
 
 #include "told.h"
@@ -61,6 +61,18 @@ static void add_clock(words *w, uint64_t ms)
     }
 }
 
+/* A pulse: which relays, and how long. */
+static void add_pulse(words *w, const wellacorn_pulse *pulse)
+{
+    for (unsigned k = 0; k < WELLACORN_CHANNELS; k++) {
+        if (pulse->mask == 1u << k && (pulse->states & pulse->mask) != 0) {
+            add(w, "relay %u, %" PRIu32 " ms", k + 1, pulse->duration);
+            return;
+        }
+    }
+    add(w, "a block of relays, mask %02X state %02X, %" PRIu32 " ms", pulse->mask, pulse->states, pulse->duration);
+}
+
 /* ---- Messages that were served. Their layout is right: the box has judged it. */
 
 static void add_request(words *w, const uint8_t *content)
@@ -73,7 +85,20 @@ static void add_request(words *w, const uint8_t *content)
     add(w, "%s", request < sizeof requests / sizeof requests[0] ? requests[request] : "asked");
 }
 
-static void add_command(words *w, const uint8_t *content)
+/* A pulse that was asked for: it stands last, and runs if it stands alone. */
+static void add_asked(words *w, const box *b, const wellacorn_pulse *asked)
+{
+    uint64_t others = b->lent.board.queue.standing - 1;
+    add(w, "asked for a pulse of ");
+    add_pulse(w, asked);
+    if (others == 0) {
+        add(w, ": it has begun");
+    } else {
+        add(w, ": it waits behind %" PRIu64 " other%s", others, others == 1 ? "" : "s");
+    }
+}
+
+static void add_command(words *w, const box *b, const uint8_t *content)
 {
     unsigned channel = two_at(content + 2);
     switch (content[1]) {
@@ -88,6 +113,10 @@ static void add_command(words *w, const uint8_t *content)
         break;
     case 5:
         add(w, "cleared the count of input %u", channel);
+        break;
+    case 6:
+    case 7:
+        add_asked(w, b, box_pulse(b, b->lent.board.queue.first, b->lent.board.queue.standing - 1));
         break;
     case 8:
         add(w, "cleared the usage of input %u", channel);
@@ -112,7 +141,7 @@ static void add_served(words *w, const box *b, const uint8_t *content)
         add_clock(w, eight_at(content + 1));
         break;
     case 10:
-        add_command(w, content);
+        add_command(w, b, content);
         break;
     case 21:
         add(w, "read %u devices", two_at(content + 1));
@@ -160,8 +189,11 @@ static void add_refused(words *w, const uint8_t *content, size_t n, uint8_t answ
     case WELLACORN_BAD_LENGTH:
         add(w, "its length is not that of the layout");
         break;
+    case WELLACORN_QUEUE_FULL:
+        add(w, "%d pulses stand in the queue. Ask again when one has ended", WELLACORN_PULSES);
+        break;
     default:
-        add(w, "an action, request, channel or flag is out of range");
+        add(w, "an action, request, channel, duration or flag is out of range");
     }
 }
 
@@ -197,6 +229,27 @@ void told_bytes(heard *h, const box *b, uint8_t c, const came *it)
     }
 }
 
+/* Says that a pulse has begun or ended, and with the last of them which relays are not as they were before all of it. */
+static void told_pulse(const box *b, const passed *it, size_t i, const char *what, bool last)
+{
+    words w = {.n = 0};
+    add_pulse(&w, box_pulse(b, it->first, i));
+    add(&w, ", has %s", what);
+    add_switched(&w, b, last ? it->switched : 0);
+    say("the pulse of %s", w.text);
+}
+
+void told_time(const box *b, const passed *it)
+{
+    for (size_t i = 0; i < it->ended; i++) {
+        bool last = i + 1 == it->ended, next = i + 1 < it->stood;
+        told_pulse(b, it, i, "ended", last && !next);
+        if (next) {
+            told_pulse(b, it, i + 1, "begun", last);
+        }
+    }
+}
+
 void told_rest(heard *h, uint8_t c)
 {
     if (h->strays > 0) {
@@ -228,6 +281,23 @@ static void told_input(int k, const wellacorn_input *in)
         alarm_word(in->usage_setpoint > 0 && in->usage >= in->usage_setpoint, ", usage alarm"));
 }
 
+static void told_queue(const box *b)
+{
+    const wellacorn_queue *queue = &b->lent.board.queue;
+    if (queue->standing == 0) {
+        say("state: no pulse stands in the queue");
+    }
+    for (size_t i = 0; i < queue->standing; i++) {
+        words w = {.n = 0};
+        add_pulse(&w, box_pulse(b, queue->first, i));
+        if (i == 0) {
+            say("state: the pulse of %s, runs: %" PRIu64 " ms left", w.text, queue->left);
+        } else {
+            say("state: the pulse of %s, waits", w.text);
+        }
+    }
+}
+
 void told_state(const box *b, const char *const peers[WELLACORN_CONNECTIONS])
 {
     const wellacorn_board *board = &b->lent.board;
@@ -242,6 +312,7 @@ void told_state(const box *b, const char *const peers[WELLACORN_CONNECTIONS])
         say("state: relay %d %s, usage %" PRIu64 " ms%s", k + 1, r->closed ? "closed" : "open", r->usage,
             alarm_word(r->usage_setpoint > 0 && r->usage >= r->usage_setpoint, ", usage alarm"));
     }
+    told_queue(b);
     for (int c = 0; c < WELLACORN_CONNECTIONS; c++) {
         const wellacorn_line *l = &board->lines[c];
         if (peers[c] == NULL) {

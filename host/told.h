@@ -1,4 +1,4 @@
-/* What each message did, in words. Stray bytes and keep-alives that come one behind the other make one line. */
+/* What each message did, and which pulses began and ended, in words. Stray bytes and keep-alives that come one behind the other make one line. */
 #ifndef TOLD_H
 #define TOLD_H
 
@@ -12,6 +12,9 @@ typedef struct {
 
 /* A call of box_bytes on connection c has come to it. */
 void told_bytes(heard *h, const box *b, uint8_t c, const came *it);
+
+/* A telling of the time has come to it: says which pulses ended and which began. */
+void told_time(const box *b, const passed *it);
 
 /* Tells what is left to tell. */
 void told_rest(heard *h, uint8_t c);

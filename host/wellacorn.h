@@ -11,10 +11,10 @@
  *     // send done.len bytes of reply; offer the bytes from piece + done.taken on again, before any later ones
  *
  * What the host owes:
- *   - The same box (board, halves and rooms) goes into every call, one call at a time, and nobody else alters it between calls. It is
- *     powered up first: that writes the whole board. Halves and rooms need not be cleared.
+ *   - The same box (board, halves, rooms and the row of pulses) goes into every call, one call at a time, and nobody else alters it between
+ *     calls. It is powered up first: that writes the whole board. Halves, rooms and row need not be cleared.
  *   - Bytes that a call has not taken are the host's to offer again, before any later ones of that connection: the box does not hold them.
- *   - No pointer is null, not even where the length beside it is 0. Board, halves, rooms, piece and reply do not overlap.
+ *   - No pointer is null, not even where the length beside it is 0. Board, halves, rooms, row, piece and reply do not overlap.
  *   - A bool of the settings is 0 or 1.
  */
 #ifndef WELLACORN_H
@@ -34,38 +34,40 @@ extern "C" {
 enum {
     WELLACORN_CHANNELS = 8,         /* inputs 1 to 8 and relays 1 to 8; channel k stands at place k - 1 */
     WELLACORN_CONNECTIONS = 4,      /* connections 0 to 3 */
-    WELLACORN_ROWS = 21,            /* rows of the board, of eight words each: eight inputs, eight relays, the clock, four connections */
+    WELLACORN_ROWS = 22,            /* rows of the board, of eight words each: eight inputs, eight relays, the clock, four connections, the queue */
+    WELLACORN_PULSES = 31,          /* pulses that stand in the queue at most, the running one included: records of the row that is lent */
     WELLACORN_CONTENT = 1024,       /* the longest content that is judged: a longer message is swallowed */
     WELLACORN_ROOMS = 4096,         /* the rooms: 1,024 content bytes for each connection */
     WELLACORN_REPLY = 4096,         /* the reply buffer must hold so many bytes */
     WELLACORN_LONGEST_REPLY = 3437  /* the longest reply, its header included */
 };
 
-/* The answer numbers. They are judged in the order 3, 12, 13, 4, then 5 or 6, 7, 8, 9, 10, 11, except that in the message types 5 and 10
- * the request or action is judged (11) as soon as the content holds it, before the length (10). Numbers 3 to 13 write no reply.
- * An answer of 3, 4, 12 or 13 takes no bytes and changes nothing; one of 6 to 11 to a message takes the bytes through its end and clears
- * the half-read message, and changes nothing else. */
+/* The answer numbers. They are judged in the order 3, 12, 13, 4, then 5 or 6, 7, 8, 9, 10, 11, 14, except that in the message types 5 and 10
+ * the request or action is judged (11) as soon as the content holds it, before the length (10). Numbers 3 to 14 write no reply.
+ * An answer of 3, 4, 12 or 13 takes no bytes and changes nothing; one of 6 to 11 or 14 to a message takes the bytes through its end and
+ * clears the half-read message, and changes nothing else. */
 enum {
     WELLACORN_WAITING = 0,          /* the piece is used up and nothing ended, or nothing is due */
     WELLACORN_SERVED = 1,           /* served; the reply's length may be 0 */
     WELLACORN_KEEP_ALIVE = 2,       /* a keep-alive byte: 1 taken, nothing changed */
     WELLACORN_NO_CONNECTION = 3,    /* connection not 0 to 3, or not open (an opening is judged on the number alone) */
-    WELLACORN_SHORT_BUFFER = 4,     /* reply buffer under 4,096 */
+    WELLACORN_SHORT_BUFFER = 4,     /* reply buffer under 4,096, or a row under 31 records */
     WELLACORN_STRAY = 5,            /* a stray byte: 1 taken, nothing changed */
     WELLACORN_TOO_LONG = 6,         /* N above 1,024 */
     WELLACORN_BAD_CHECKSUM = 7,     /* the checksum differs and is not 0xFFFF */
     WELLACORN_NOT_OFFERED = 8,      /* N is 0, or the type is not offered */
     WELLACORN_LOW_RANK = 9,         /* rank too low */
     WELLACORN_BAD_LENGTH = 10,      /* the content does not have the layout's length */
-    WELLACORN_OUT_OF_RANGE = 11,    /* action, request, channel, input, level or flags out of range */
+    WELLACORN_OUT_OF_RANGE = 11,    /* action, request, channel, input, level or flags out of range, or a pulse of 0 ms */
     WELLACORN_ALREADY_OPEN = 12,    /* opening one that is open */
-    WELLACORN_BAD_RANK = 13         /* rank above 2 */
+    WELLACORN_BAD_RANK = 13,        /* rank above 2 */
+    WELLACORN_QUEUE_FULL = 14       /* a pulse is asked for while 31 stand in the queue */
 };
 
 /* ---- What the box holds.
  *
- * The host may read it between calls: levels, counts, usages, relays, the clock, the connections, what is due, how far a message has been
- * read. It writes to none of it. Usages are in ms. A flag is a word: 0 is no, anything else yes; the calls write 0 and 1. The unused words
+ * The host may read it between calls: levels, counts, usages, relays, the clock, the connections, what is due, the pulses, how far a message
+ * has been read. It writes to none of it. Usages are in ms. A flag is a word: 0 is no, anything else yes; the calls write 0 and 1. The unused words
  * are 0. */
 
 typedef struct {
@@ -101,12 +103,33 @@ typedef struct {
     uint64_t unused[4];
 } wellacorn_line;
 
+/* The queue of pulses. The pulses themselves stand in the row: the running one at the place `first`, behind it those that wait, in the order
+ * in which they came; behind the place 30 comes the place 0. */
+typedef struct {
+    uint64_t first;             /* the place of the running pulse in the row, 0 to 30; it moves on by one with each pulse that ends */
+    uint64_t standing;          /* how many stand, the running one included: 0 to 31. 0: none runs */
+    uint64_t left;              /* ms up to the end of the running one; 0 where none runs */
+    uint64_t remembered;        /* the states of all relays when it began, lowest bit relay 1: its masked relays return to them; 0 where none runs */
+    uint64_t mask;              /* of the request that was accepted last, as it stands in the row: mask, states, duration */
+    uint64_t states;
+    uint64_t duration;
+    uint64_t unused;
+} wellacorn_queue;
+
 typedef struct {
     wellacorn_input inputs[WELLACORN_CHANNELS];
     wellacorn_relay relays[WELLACORN_CHANNELS];
     wellacorn_clock clock;
     wellacorn_line lines[WELLACORN_CONNECTIONS];
+    wellacorn_queue queue;
 } wellacorn_board;
+
+/* A pulse, as it stands in the row: the masked relays take their states for so long, and then return to those they had. */
+typedef struct {
+    uint16_t mask;              /* lowest bit relay 1 */
+    uint16_t states;            /* 1 closed, 0 open; only those of masked relays count */
+    uint32_t duration;          /* ms, not 0 */
+} wellacorn_pulse;
 
 /* How far a message has been read. All zero at a message start. Of a shut connection it says nothing. */
 typedef struct {
@@ -146,8 +169,12 @@ void wellacorn_power_up(wellacorn_board *board, wellacorn_settings s);
  * Monitor due on each open connection of rank 1 or 2 that has it on. Answers 1, or 11 for a bad input or level. */
 wellacorn_done wellacorn_level(wellacorn_board *board, uint8_t k, uint8_t v);
 
-/* d ms have passed: the clock, the usage of each input that is on and of each closed relay grow by d. Always answers 1. */
-wellacorn_done wellacorn_pass(wellacorn_board *board, uint32_t d);
+/* d ms have passed: the clock, the usage of each input that is on and of each closed relay grow by d. In each ms they grow first; then the
+ * running pulse ends if its time is over, and the next begins in that same ms. Each end and each beginning that really changes a relay makes
+ * Monitor due. The row is read only. Answers 1, or 4 for a row under 31 records.
+ *
+ * A relay that a pulse has closed is closed until this call says that its time is over: `queue.left` of the board says when that is. */
+wellacorn_done wellacorn_pass(wellacorn_board *board, const wellacorn_pulse *row, size_t records, uint32_t d);
 
 /* Opens connection c at a rank: fresh, at a message start, Monitor on, due if rank is 1 or 2. Answers 1, or 3, 12 or 13. */
 wellacorn_done wellacorn_connect(wellacorn_board *board, wellacorn_half halves[WELLACORN_CONNECTIONS], uint8_t c, uint8_t rank);
@@ -160,12 +187,15 @@ wellacorn_done wellacorn_close(wellacorn_board *board, wellacorn_half halves[WEL
  * frame of `len` bytes at the start of the reply buffer; the bytes after it stay, and without a reply all stay.
  *
  *   rooms      1,024 content bytes for each connection, at 1,024 x c. A call writes to those of its own connection alone.
+ *   row        `records` records, at least 31 or the answer is 4. A pulse that is accepted is written to one of the first 31; no other record
+ *              is ever written to. Not null, not even for a length of 0.
  *   piece      piece_len bytes, read only. Not null, not even for an empty piece, which answers 0 (if neither 3 nor 4 applies).
  *   reply      reply_len bytes, at least 4,096 or the answer is 4. Not null, not even for a length of 0.
  *
- * Answers 0 to 11. */
+ * Answers 0 to 11, or 14. */
 wellacorn_done wellacorn_bytes(wellacorn_board *board, wellacorn_half halves[WELLACORN_CONNECTIONS], uint8_t rooms[WELLACORN_ROOMS],
-                               uint8_t c, const uint8_t *piece, size_t piece_len, uint8_t *reply, size_t reply_len);
+                               wellacorn_pulse *row, size_t records, uint8_t c, const uint8_t *piece, size_t piece_len, uint8_t *reply,
+                               size_t reply_len);
 
 /* Collects on connection c: if Monitor is due, writes one Monitor message, with the state now, and clears the mark: 1. If not: 0. Several
  * changes before one collection give one message. The reply buffer is as in wellacorn_bytes. Answers 0, 1, 3 or 4. */
@@ -178,6 +208,7 @@ typedef struct {
     wellacorn_board board;
     wellacorn_half halves[WELLACORN_CONNECTIONS];
     uint8_t rooms[WELLACORN_ROOMS];
+    wellacorn_pulse row[WELLACORN_PULSES];
 } wellacorn_box;
 
 static inline void wellacorn_box_power_up(wellacorn_box *box, wellacorn_settings s)
@@ -192,7 +223,7 @@ static inline wellacorn_done wellacorn_box_level(wellacorn_box *box, uint8_t k, 
 
 static inline wellacorn_done wellacorn_box_pass(wellacorn_box *box, uint32_t d)
 {
-    return wellacorn_pass(&box->board, d);
+    return wellacorn_pass(&box->board, box->row, WELLACORN_PULSES, d);
 }
 
 static inline wellacorn_done wellacorn_box_connect(wellacorn_box *box, uint8_t c, uint8_t rank)
@@ -208,7 +239,7 @@ static inline wellacorn_done wellacorn_box_close(wellacorn_box *box, uint8_t c)
 static inline wellacorn_done wellacorn_box_bytes(wellacorn_box *box, uint8_t c, const uint8_t *piece, size_t piece_len, uint8_t *reply,
                                                  size_t reply_len)
 {
-    return wellacorn_bytes(&box->board, box->halves, box->rooms, c, piece, piece_len, reply, reply_len);
+    return wellacorn_bytes(&box->board, box->halves, box->rooms, box->row, WELLACORN_PULSES, c, piece, piece_len, reply, reply_len);
 }
 
 static inline wellacorn_done wellacorn_box_collect(wellacorn_box *box, uint8_t c, uint8_t *reply, size_t reply_len)
@@ -248,11 +279,26 @@ WELLACORN_PLACE(wellacorn_line, rank, 8);
 WELLACORN_PLACE(wellacorn_line, monitor, 16);
 WELLACORN_PLACE(wellacorn_line, due, 24);
 
+WELLACORN_SIZE(wellacorn_queue, WELLACORN_ROW);
+WELLACORN_PLACE(wellacorn_queue, first, 0);
+WELLACORN_PLACE(wellacorn_queue, standing, 8);
+WELLACORN_PLACE(wellacorn_queue, left, 16);
+WELLACORN_PLACE(wellacorn_queue, remembered, 24);
+WELLACORN_PLACE(wellacorn_queue, mask, 32);
+WELLACORN_PLACE(wellacorn_queue, states, 40);
+WELLACORN_PLACE(wellacorn_queue, duration, 48);
+
 WELLACORN_SIZE(wellacorn_board, WELLACORN_ROWS * WELLACORN_ROW);
 WELLACORN_PLACE(wellacorn_board, inputs, 0 * WELLACORN_ROW);
 WELLACORN_PLACE(wellacorn_board, relays, 8 * WELLACORN_ROW);
 WELLACORN_PLACE(wellacorn_board, clock, 16 * WELLACORN_ROW);
 WELLACORN_PLACE(wellacorn_board, lines, 17 * WELLACORN_ROW);
+WELLACORN_PLACE(wellacorn_board, queue, 21 * WELLACORN_ROW);
+
+WELLACORN_SIZE(wellacorn_pulse, 8);
+WELLACORN_PLACE(wellacorn_pulse, mask, 0);
+WELLACORN_PLACE(wellacorn_pulse, states, 2);
+WELLACORN_PLACE(wellacorn_pulse, duration, 4);
 
 WELLACORN_SIZE(wellacorn_half, 24);
 WELLACORN_PLACE(wellacorn_half, got, 0);

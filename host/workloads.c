@@ -4,7 +4,22 @@
 #include "engine.h"
 
 static engine box;
+static engine_pulse row[WELLACORN_PULSES];
 static uint8_t reply[WELLACORN_REPLY];
+
+static inline void offer(workload_tally *t, const uint8_t *piece, size_t n)
+{
+    engine_bytes(&box, row, WELLACORN_PULSES, 0, piece, n, reply, sizeof reply);
+    t->answers += box.answer;
+    t->taken += box.taken;
+    t->len += box.len;
+}
+
+static inline void let_pass(workload_tally *t, uint32_t d)
+{
+    engine_pass(&box, row, WELLACORN_PULSES, d);
+    t->answers += box.answer;
+}
 
 static void fresh(void)
 {
@@ -19,7 +34,8 @@ static void fresh(void)
         engine_level(&box, k, 1);
     }
     static const uint8_t close_half[] = {0x01, 0, 4, 0xFF, 0xFF, 10, 10, 0x55, 0x55};
-    engine_bytes(&box, 0, close_half, sizeof close_half, reply, sizeof reply);
+    workload_tally unread = {0};
+    offer(&unread, close_half, sizeof close_half);
 }
 
 static workload_tally pieces(const uint8_t *bytes, size_t n, size_t step, size_t times)
@@ -27,10 +43,7 @@ static workload_tally pieces(const uint8_t *bytes, size_t n, size_t step, size_t
     workload_tally t = {0};
     for (; times > 0; times--) {
         for (size_t at = 0; at < n; at += step) {
-            engine_bytes(&box, 0, bytes + at, step, reply, sizeof reply);
-            t.answers += box.answer;
-            t.taken += box.taken;
-            t.len += box.len;
+            offer(&t, bytes + at, step);
         }
     }
     return t;
@@ -42,10 +55,7 @@ static workload_tally drain(const uint8_t *bytes, size_t n, size_t step, size_t 
     workload_tally t = {0};
     for (; times > 0; times--) {
         for (size_t at = 0; at < n; at += box.taken) {
-            engine_bytes(&box, 0, bytes + at, n - at, reply, sizeof reply);
-            t.answers += box.answer;
-            t.taken += box.taken;
-            t.len += box.len;
+            offer(&t, bytes + at, n - at);
             if (box.taken == 0) {
                 break;      /* never of an open connection; the sums will differ */
             }
@@ -61,8 +71,7 @@ static workload_tally pass(const uint8_t *bytes, size_t n, size_t step, size_t t
     workload_tally t = {0};
     for (; times > 0; times--) {
         for (size_t i = 0; i < n; i++) {
-            engine_pass(&box, 1);
-            t.answers += box.answer;
+            let_pass(&t, 1);
         }
     }
     return t;
@@ -77,12 +86,35 @@ static workload_tally collect(const uint8_t *bytes, size_t n, size_t step, size_
         for (size_t i = 0; i < n; i++) {
             engine_level(&box, (uint8_t)(i % WELLACORN_CHANNELS + 1), (uint8_t)(i / WELLACORN_CHANNELS % 2));
             t.answers += box.answer;
-            engine_pass(&box, 1);
-            t.answers += box.answer;
+            let_pass(&t, 1);
             engine_collect(&box, 0, reply, sizeof reply);
             t.answers += box.answer;
             t.len += box.len;
         }
+    }
+    return t;
+}
+
+static workload_tally pulsed(const uint8_t *bytes, size_t n, size_t step, size_t times)
+{
+    workload_tally t = {0};
+    for (; times > 0; times--) {
+        offer(&t, bytes, n);
+        for (size_t i = 0; i < step; i++) {
+            let_pass(&t, 1);
+        }
+    }
+    return t;
+}
+
+static workload_tally queued(const uint8_t *bytes, size_t n, size_t step, size_t times)
+{
+    workload_tally t = {0};
+    for (; times > 0; times--) {
+        for (size_t at = 0; at < n; at += step) {
+            offer(&t, bytes + at, step);
+        }
+        let_pass(&t, (uint32_t)(n / step));
     }
     return t;
 }
@@ -97,6 +129,11 @@ static wellacorn_half half(int c)
     return engine_half(&box, c);
 }
 
+static wellacorn_pulse pulse(int place)
+{
+    return engine_pulse_in(&row[place]);
+}
+
 #ifdef ENGINE_PEER
 const workload_side peer_side =
 #else
@@ -104,8 +141,9 @@ const workload_side library_side =
 #endif
     {
         .fresh = fresh,
-        .does = {[PIECES] = pieces, [DRAIN] = drain, [PASS] = pass, [COLLECT] = collect},
+        .does = {[PIECES] = pieces, [DRAIN] = drain, [PASS] = pass, [COLLECT] = collect, [PULSED] = pulsed, [QUEUED] = queued},
         .board = board,
         .half = half,
+        .pulse = pulse,
         .reply = reply,
 };

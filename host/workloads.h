@@ -19,6 +19,8 @@ enum {
     DRAIN,      /* offers the n bytes, then again what is left of them, until all are taken */
     PASS,       /* n times: 1 ms passes */
     COLLECT,    /* n times: a level changes, 1 ms passes, Monitor is collected */
+    PULSED,     /* offers the n bytes, which ask for a pulse; then `step` times: 1 ms passes */
+    QUEUED,     /* offers the n bytes in pieces of `step`, which ask for a pulse each; then as many ms pass in one call */
     WORKLOADS
 };
 
@@ -27,6 +29,7 @@ typedef struct {
     workload *does[WORKLOADS];
     wellacorn_board (*board)(void);     /* what the box holds */
     wellacorn_half (*half)(int c);      /* how far a message of connection c has been read */
+    wellacorn_pulse (*pulse)(int place);    /* a record of the row */
     const uint8_t *reply;               /* its reply buffer, WELLACORN_REPLY bytes */
 } workload_side;
 

@@ -1,5 +1,5 @@
 #!/usr/bin/env python3
-"""The panel: an ordinary client of the box that shows it on one page, with buttons for the relays.
+"""The panel: an ordinary client of the box that shows it on one page, with buttons that switch and pulse the relays.
 
     panel/panel.py [--box HOST:PORT] [--port PORT] [--user NAME]
 
@@ -34,6 +34,9 @@ LOGIN_PATIENCE = 45.0       # s: wrong passwords are answered late, and after th
 AGAIN = 1.0                 # s until the next try after a lost connection
 AGAIN_REFUSED = 30.0        # s after a refused login
 LONGEST_BODY = 1000         # bytes of a request to the panel
+ROUNDS_KEPT = 64            # rounds whose answers are kept for those who wait for them
+QUEUE = 31                  # pulses that stand in the box's queue at most, the running one included
+LONGEST_PULSE = 4294967295  # ms
 
 
 class Lost(Exception):
@@ -66,6 +69,10 @@ def text(value):
     """A character string: its length in one byte, then US-ASCII."""
     data = value.encode("ascii")
     return bytes([len(data)]) + data
+
+
+# 001, Custom Command (type 255): the box's host answers how many pulses stand in the queue.  No message of the box tells that.
+HOW_MANY = b"\xFF" + text("pulses") + b"\x00\x00\x00"
 
 
 class Fields:
@@ -126,13 +133,15 @@ class Box:
         self.changed = threading.Condition()
         self.version = 0                        # grows with each change of what follows
         self.seen = {"answers": False, "since": time.time(), "check": "The panel is connecting.", "box": f"{address[0]}:{address[1]}",
-                     "at": None, "name": "", "clock": 0,
+                     "at": None, "name": "", "clock": 0, "standing": None,
                      "inputs": [dict(on=False, alarm=False, count=0, count_alarm_1=False, count_alarm_2=False, usage_alarm=False)
                                 for _ in CHANNELS],
                      "relays": [dict(closed=False, usage_alarm=False) for _ in CHANNELS]}
         self.sending = threading.Lock()
         self.socket = None
         self.asked = self.answered = 0          # rounds
+        self.counts = []                        # how many pulses stood, as told in the round that is being answered
+        self.told = {}                          # and in the last rounds that were answered whole
 
     # -- what is seen ------------------------------------------------------------------------------
 
@@ -155,6 +164,8 @@ class Box:
             self.take_monitor(fields)
         elif kind == 22:
             self.take_devices(fields)
+        elif kind == 254:
+            self.take_standing(fields)
         elif kind == 6:
             self.take_clock(fields)
         elif kind == 3:
@@ -179,9 +190,19 @@ class Box:
                 relays[at] = {"closed": block.number() == 1, "usage": block.number(8), "usage_alarm": block.number() == 1}
         self.change(inputs=inputs, relays=relays)
 
+    def take_standing(self, fields):
+        """Status 0 and one byte.  Another host than Wellacorn's may answer otherwise: it tells nothing then."""
+        if fields.content[1:4] == b"\x00\x00\x01":
+            standing = Fields(fields.content[4:]).number()
+            self.counts.append(standing)
+            self.change(standing=standing)
+
     def take_clock(self, fields):
         """The last answer of a round: the box answers."""
-        self.answered += 1
+        round_, counts, self.counts = self.answered + 1, self.counts, []
+        self.told[round_] = counts
+        self.told.pop(round_ - ROUNDS_KEPT, None)
+        self.answered = round_
         values = {"clock": fields.number(8), "at": time.time(), "check": ""}
         if not self.seen["answers"]:
             values.update(answers=True, since=time.time())
@@ -193,7 +214,7 @@ class Box:
         """Sends messages, and a round behind them; gives the number of the round, which is answered when all before it is done."""
         ids = INPUT_IDS + RELAY_IDS
         devices = b"\x15" + len(ids).to_bytes(2, "big") + b"".join(id.to_bytes(8, "big") for id in ids)
-        messages = [*contents, devices, b"\x05\x00\x00"]
+        messages = [*contents, HOW_MANY, devices, b"\x05\x00\x00"]
         with self.sending:
             if self.socket is None:
                 raise Lost("There is no connection to it.")
@@ -207,6 +228,20 @@ class Box:
         with self.changed:
             self.changed.wait_for(lambda: self.answered >= mine or not self.seen["answers"], SILENCE)
             return self.answered >= mine and self.seen["relays"][channel - 1]["closed"] == closed
+
+    def pulse(self, channel, ms):
+        """Asks for a pulse; how many stood before it, -1 if it was refused, None if the box did not tell.
+
+        A command has no reply.  So it is asked how many stand directly before it and, by the round, directly behind it.
+        """
+        mine = self.send(HOW_MANY, b"\x0A\x06" + channel.to_bytes(2, "big") + ms.to_bytes(4, "big"))
+        with self.changed:
+            self.changed.wait_for(lambda: self.answered >= mine or not self.seen["answers"], SILENCE)
+            counts = self.told.get(mine, [])
+        if len(counts) != 2:
+            return None
+        before, behind = counts
+        return -1 if before >= QUEUE and behind >= QUEUE else before
 
     # -- the connection ----------------------------------------------------------------------------
 
@@ -241,6 +276,7 @@ class Box:
         with self.sending:
             self.socket = connection
             self.asked = self.answered = 0
+            self.counts, self.told = [], {}
         self.send(b"\x05\x00\x01")
         heard = time.monotonic()
         next_round = heard + ROUND
@@ -357,10 +393,12 @@ class Handler(http.server.BaseHTTPRequestHandler):
         elif self.headers.get("Origin") != "http://" + self.headers.get("Host") or \
                 self.headers.get("Content-Type", "").split(";")[0] != "application/json":
             self.answer(403, "A command counts from the panel's own page alone.\n")
-        elif self.path != "/relay":
-            self.answer(404, "There is no such command.\n")
-        else:
+        elif self.path == "/relay":
             self.relay(body)
+        elif self.path == "/pulse":
+            self.pulse(body)
+        else:
+            self.answer(404, "There is no such command.\n")
 
     def relay(self, body):
         try:
@@ -379,6 +417,28 @@ class Handler(http.server.BaseHTTPRequestHandler):
             self.answer(200, "Done.\n")
         else:
             self.answer(502, f"The box did not {'close' if closed else 'open'} relay {channel}. Look whether it answers, and try again.\n")
+
+    def pulse(self, body):
+        try:
+            asked = json.loads(body)
+            channel, ms = asked["relay"], asked["ms"]
+            if type(channel) is not int or channel not in CHANNELS or type(ms) is not int or not 1 <= ms <= LONGEST_PULSE:
+                raise ValueError
+        except (ValueError, KeyError, TypeError):
+            self.answer(400, f"A pulse has a relay from 1 to 8, and ms from 1 to {LONGEST_PULSE}.\n")
+            return
+        try:
+            before = self.server.box.pulse(channel, ms)
+        except (Lost, OSError):
+            before = None
+        if before is None:
+            self.answer(502, f"The box did not tell whether it took the pulse of relay {channel}. Look whether it answers, and at the relay.\n")
+        elif before < 0:
+            self.answer(409, f"{QUEUE} pulses stand in the queue: the box takes no more. Try again when one has ended.\n")
+        elif before == 0:
+            self.answer(200, f"The pulse of relay {channel}, {ms} ms, has begun.\n")
+        else:
+            self.answer(200, f"The pulse of relay {channel}, {ms} ms, waits behind {before} other{'s' if before > 1 else ''}.\n")
 
     def log_message(self, *words):
         """The panel prints nothing for each request."""

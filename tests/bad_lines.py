@@ -1,22 +1,35 @@
 #!/usr/bin/env python3
-"""What docs/REPLAY.md says of the replay tool besides the box: its example, lines that are no event, lines of any length, and bytes at
+"""What docs/REPLAY.md says of the replay tool besides the box: its examples, lines that are no event, lines of any length, and bytes at
 random. Each line has exactly one answer, and no input crashes the tool. The C side is built with sanitizers here, and without."""
 
 import random
+import re
 import subprocess
 import sys
 
 TOOLS = ("replay", "replay-san", "replay-peer-san")
 
-# The page's own example.
-EXAMPLE = [
+PAGE = "docs/REPLAY.md"
+
+# Rows of every kind. A pulse of relay 1 for 3 ms and one of relays 1 and 2 for the longest time are asked for and run with rows of other
+# lengths: from 31 on all calls share one row.
+ROWS = [
     ("open 0 2", "1"),
-    ("bytes 0 4096 010004FFFF0A0A0505", "1 9 0 -"),
-    ("state", "C 0 I" + " 0,0,0" * 8 + " R 1,0 0,0 1,0" + " 0,0" * 5 + " N 1,2,1,1,0" + " 0,0,0,0,0" * 3),
-    ("bytes 0 4095 06", "4 0 0 -"),
-    ("bytes 0 4096 0601", "2 1 0 -"),
-    ("pass 7", "1"),
-    ("bytes 0 4096 01000365FF050000", "7 8 0 -"),
+    ("pass 1 0", "4"), ("pass 1 30", "4"), ("pass 0 30", "4"), ("pass 1 31", "1"), ("pass 1 32", "1"), ("pass 1 64", "1"), ("pass 1", "1"),
+    ("bytes 0 4096 06 0", "4 0 0 -"), ("bytes 0 4096 06 30", "4 0 0 -"), ("bytes 0 4096 - 30", "4 0 0 -"), ("bytes 1 4096 06 30", "3 0 0 -"),
+    ("bytes 0 4095 06 31", "4 0 0 -"), ("bytes 0 4096 06 31", "2 1 0 -"), ("bytes 0 4096 06 64", "2 1 0 -"), ("bytes 0 4096 - 64", "0 0 0 -"),
+    ("bytes 0 4096 010008FFFF0A06000100000003 30", "4 0 0 -"),
+    ("bytes 0 4096 010008FFFF0A06000100000003 64", "1 13 0 -"),
+    ("bytes 0 4096 010008FFFF0A0703FEFFFFFFFF 31", "1 13 0 -"),
+    ("state", "C 4 I" + " 0,0,0" * 8 + " R 1,0" + " 0,0" * 7 + " N 1,2,1,1,0" + " 0,0,0,0,0" * 3 + " P 2 1,1,3 3,2,4294967295 was 0"),
+    ("pass 3 30", "4"),
+    ("pass 3 32", "1"),
+    ("state", "C 7 I" + " 0,0,0" * 8 + " R 0,3 1,0" + " 0,0" * 6 + " N 1,2,1,1,0" + " 0,0,0,0,0" * 3 + " P 1 3,2,4294967295 was 0"),
+    ("pass 4294967294", "1"),
+    ("pass 1 64", "1"),
+    ("state", "C 4294967302 I" + " 0,0,0" * 8 + " R 0,3 0,4294967295" + " 0,0" * 6 + " N 1,2,1,1,0" + " 0,0,0,0,0" * 3 + " P 0"),
+    ("power", "1"),
+    ("state", "C 0 I" + " 0,0,0" * 8 + " R" + " 0,0" * 8 + " N" + " 0,0,0,0,0" * 4 + " P 0"),
 ]
 
 # "any other line": `?`
@@ -24,11 +37,28 @@ OTHER = [
     "", " ", "?", "open", "open 0", "open 0 2 3", "open 0 256", "open -1 2", "open +1 2", "open 0x1 2", "open  0 2", "open 0 2 ", " open 0 2",
     "Open 0 2", "close", "close 256", "close 0 0", "level 1", "level 1 256", "level 1 1 1", "pass", "pass 4294967296", "pass 1.0", "pass 1e3",
     "pass 99999999999999999999999999", "collect 0", "collect 0 65537", "collect 0 4096 -", "bytes 0 4096", "bytes 0 4096 0", "bytes 0 4096 0g",
-    "bytes 0 4096 0a", "bytes 0 4096 06 06", "bytes 0 65537 06", "bytes 256 4096 06", "bytes 0 4096 --", "power 1", "power" + " 0" * 39,
+    "bytes 0 4096 0a", "bytes 0 65537 06", "bytes 256 4096 06", "bytes 0 4096 --", "power 1", "power" + " 0" * 39,
     "power" + " 0" * 41, "power" + " 0 0 0 2" * 8 + " 0" * 8, "power 4294967296 0 0 0" + " 0" * 36, "power 0 0 18446744073709551616 0" + " 0" * 36,
     "state 0", "state ", "states", "open\t0\t2", "bytes 0 4096 " + "0" * 200001, "bytes 0 4096 " + "0" * 200002, "x" * 1000000, "open 0 2\r",
-    "open 0 2\0", "\0",
+    "open 0 2\0", "\0", "pass 1 65", "pass 1 -", "pass 1 +31", "pass 1 -1", "pass 1 x", "pass 1 1F", "pass 1 31 31", "pass 1 31 ", "pass 1 ",
+    "pass 1  31", "pass 4294967296 31", "pass 1 99999999999999999999999999", "pass 1 4294967327", "bytes 0 4096 06 65", "bytes 0 4096 06 -",
+    "bytes 0 4096 06 0A", "bytes 0 4096 06 31 31", "bytes 0 4096 06 31 ", "bytes 0 4096 06 ", "bytes 0 4096 06  31", "bytes 0 4096 - 65",
+    "bytes 0 4096 0 31", "bytes 0 4096 0g 31", "bytes 0 4096 06 18446744073709551647", "bytes 0 65537 06 31", "collect 0 4096 31", "level 1 1 31",
+    "state 31", "power 31", "bytes 0 4096 " + "00" * 100001 + " 31", "bytes 0 4096 " + "00" * 100000 + " 65",
 ]
+
+
+def examples():
+    """The page's own examples: blocks of lines that are set in, each a line for the tool, two or more blanks, and what it prints."""
+    blocks, block = [], []
+    with open(PAGE, encoding="utf-8") as page:
+        for line in list(page) + [""]:
+            if line.startswith("    "):
+                block.append(tuple(re.split(r" {2,}", line.strip(), maxsplit=1)))
+            elif block and not line.strip():
+                blocks.append(block)
+                block = []
+    return blocks
 
 
 def play(tool, text):
@@ -49,12 +79,19 @@ def expect(tool, what, pairs):
 
 def main():
     noise = random.Random(7)
-    words = [b"open ", b"close ", b"level ", b"pass ", b"collect ", b"bytes ", b"state", b"power", b"0", b"1", b" ", b"-", b"4096", b"06", b"\n"]
+    words = [b"open ", b"close ", b"level ", b"pass ", b"collect ", b"bytes ", b"state", b"power", b"0", b"1", b" ", b"-", b"4096", b"06", b"31", b"64",
+             b"\n"]
     text = b"".join(noise.choice(words) if noise.random() < 0.9 else bytes([noise.randrange(256)]) for _ in range(60000)) + b"\n"
+    pages = examples()
+    if [len(block) for block in pages] != [7, 13]:
+        sys.exit(f"bad_lines: {PAGE} has other examples than were counted: {[len(block) for block in pages]}")
     # The longest piece there is: 100,000 stray bytes, of which the first is taken; and the same unread, of a shut connection.
-    longest = [("open 0 0", "1"), ("bytes 0 4096 " + "00" * 100000, "5 1 0 -"), ("bytes 1 4096 " + "00" * 100000, "3 0 0 -")]
+    longest = [("open 0 0", "1"), ("bytes 0 4096 " + "00" * 100000, "5 1 0 -"), ("bytes 1 4096 " + "00" * 100000, "3 0 0 -"),
+               ("bytes 0 4096 " + "00" * 100000 + " 64", "5 1 0 -"), ("bytes 0 4096 " + "00" * 100000 + " 30", "4 0 0 -")]
     for tool in TOOLS:
-        expect(tool, "the example", EXAMPLE)
+        for block in pages:
+            expect(tool, "an example of the page", block)
+        expect(tool, "rows", ROWS)
         expect(tool, "other lines", [(line, "?") for line in OTHER])
         expect(tool, "the longest piece", longest)
         lines = play(tool, text).count(b"\n")
@@ -62,7 +99,8 @@ def main():
             sys.exit(f"bad_lines: {tool}: {lines} lines for {text.count(10)} of noise")
         if play(tool, b"open 0 2") not in (b"1\n",):
             sys.exit(f"bad_lines: {tool}: a last line without its end has no answer")
-    print(f"bad_lines: {len(EXAMPLE)} lines of the page, {len(OTHER)} other lines, {text.count(10)} lines of noise, each answered by {', '.join(TOOLS)}")
+    print(f"bad_lines: {sum(map(len, pages))} lines of the page, {len(ROWS)} with rows, {len(OTHER)} other lines, {text.count(10)} lines of noise, "
+          f"each answered by {', '.join(TOOLS)}")
 
 
 main()

@@ -31,8 +31,19 @@ def login(name, password):
     return frame(b"\x7E" + string(name) + string(password))
 
 
+def pulse(channel, ms):
+    """Action 6: closes the relay for so long."""
+    return frame(b"\x0A\x06" + field(channel, 2) + field(ms, 4))
+
+
+def block_pulse(mask, states, ms):
+    """Action 7."""
+    return frame(b"\x0A\x07" + bytes([mask, states]) + field(ms, 4))
+
+
 CLOCK = frame(b"\x05\x00\x00")
 MONITOR = frame(b"\x05\x00\x01")
+HOW_MANY = frame(b"\xFF" + string(b"pulses") + b"\x00\x00\x00")          # 001, Custom Command: what the host itself answers
 
 
 # ---------------------------------------------------------------------------------------------
@@ -256,6 +267,11 @@ def login_answer(content):
     return frame(b"\x7D\xFF" if strings else b"\x7D\x80")
 
 
+def standing_answer(n):
+    """001, Custom Command Response: status 0, a payload of one byte."""
+    return frame(b"\xFE\x00\x00\x01" + bytes([n]))
+
+
 class Played:
     """The trace of a host without a users file, played to the model: sessions, and the model at the end."""
 
@@ -295,6 +311,8 @@ class Played:
         self.current[c].replies += reply
         if answer == NOT_OFFERED and len(joined) > 5 and joined[5] == 126:
             self.current[c].replies += login_answer(joined[5:])
+        if answer == NOT_OFFERED and joined[5:] == HOW_MANY[5:]:
+            self.current[c].replies += standing_answer(len(self.box.queue))
 
 
 def judge(host, clients):

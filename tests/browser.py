@@ -3,8 +3,8 @@
 
     python3 tests/browser.py [FOLDER]       puts its pictures into FOLDER, or target/panel
 
-Presses a button by keyboard and one by a click, looks whether the relays of the box switch and the page shows it, raises alarms,
-takes the box away and gives it back.  Prints what it saw, and exits 1 at the first thing that is not so.
+Presses a button by keyboard and one by a click, looks whether the relays of the box switch and the page shows it, pulses relays for a
+duration that it writes, raises alarms, takes the box away and gives it back.  Prints what it saw, and exits 1 at the first thing that is not so.
 """
 
 import base64
@@ -16,7 +16,7 @@ import sys
 import tempfile
 import time
 
-from boxd import Boxd, Client, PATIENCE, ROOT, frame
+from boxd import Boxd, Client, PATIENCE, ROOT, frame, pulse
 from model import field
 from test_panel import Panel
 
@@ -115,7 +115,8 @@ class Browser:
 
 
 TEXT = "document.body.innerText"
-BUTTONS = "[...document.querySelectorAll('button')]"
+BUTTONS = "[...document.querySelectorAll('button')]"            # of each relay: close or open, then pulse
+FOCUSED = "document.activeElement.getAttribute('aria-label')"
 
 
 def busy_morning(host, client):
@@ -145,15 +146,44 @@ def try_page(browser, host, folder):
 
 def try_buttons(browser, host):
     browser.key("Tab", 9)
-    assert browser.value("document.activeElement.getAttribute('aria-label')") == "Open relay 1"
-    browser.key("Tab", 9)
-    assert browser.value("document.activeElement.getAttribute('aria-label')") == "Close relay 2"
+    assert browser.value("document.activeElement.id") == "ms"
+    for label in ("Open relay 1", "Pulse relay 1 for 500 ms", "Close relay 2"):
+        browser.key("Tab", 9)
+        assert browser.value(FOCUSED) == label, label
     browser.key("Enter", 13, "\r")
     host.wait_for("relay 2 is closed now")
-    browser.wait_for(f"{BUTTONS}[1].textContent === 'Open' && {TEXT}.includes('Relay 2 is closed.')", "relay 2 was closed by keyboard")
+    browser.wait_for(f"{BUTTONS}[2].textContent === 'Open' && {TEXT}.includes('Relay 2 is closed.')", "relay 2 was closed by keyboard")
     browser.click("button[aria-label='Open relay 1']")
     host.wait_for("relay 1 is open now")
     browser.wait_for(f"{BUTTONS}[0].textContent === 'Close'", "relay 1 was opened by a click")
+
+
+def write_duration(browser, ms):
+    """Writes it as a hand does: all that stands there is replaced."""
+    browser.value("(field => { field.focus(); field.select(); })(document.getElementById('ms'))")
+    browser.ask("Input.insertText", text=ms)
+
+
+def try_pulses(browser, host, client, folder):
+    browser.wait_for(f"{TEXT}.includes('no pulse')", "it is told that no pulse runs")
+    browser.click("button[aria-label='Pulse relay 4 for 500 ms']")
+    host.wait_for("asked for a pulse of relay 4, 500 ms: it has begun; relay 4 is closed now")
+    browser.wait_for(f"{TEXT}.includes('The pulse of relay 4, 500 ms, has begun.')", "relay 4 was pulsed by a click")
+    host.wait_for("the pulse of relay 4, 500 ms, has ended; relay 4 is open now")
+    for bad in ("0", "1.5", "4294967296"):
+        write_duration(browser, bad)
+        browser.wait_for(f"{BUTTONS}.every((b, i) => b.disabled === (i % 2 === 1))", f"{bad} ms is no duration: no pulse can be asked for")
+    write_duration(browser, "4000")
+    client.send(pulse(5, 4000) + pulse(6, 1))
+    client.clock()
+    browser.click("button[aria-label='Pulse relay 8 for 4000 ms']")
+    browser.wait_for(f"{TEXT}.includes('The pulse of relay 8, 4000 ms, waits behind 2 others.') && {TEXT}.includes('1 pulse runs, 2 wait')",
+                     "a pulse of another duration waits behind two others")
+    browser.picture(os.path.join(folder, "panel-pulses.png"), TABLET)
+    assert browser.value("document.documentElement.scrollHeight") <= 800, "the page does not fit a tablet while pulses stand"
+    browser.wait_for(f"{TEXT}.includes('1 pulse runs, none waits')", "the last one runs")
+    browser.wait_for(f"{TEXT}.includes('no pulse')", "all have ended")
+    assert host.count("asked for a pulse") == 4
 
 
 def try_loss(browser, host, folder):
@@ -177,6 +207,7 @@ def main():
         try:
             try_page(browser, host, folder)
             try_buttons(browser, host)
+            try_pulses(browser, host, client, folder)
             try_loss(browser, host, folder)
             panel.process.terminate()
             panel.ended()

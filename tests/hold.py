@@ -17,7 +17,7 @@ from collections import Counter
 import traces
 from model import Box, field, number
 
-ANSWERS = range(14)
+ANSWERS = range(15)
 
 
 # ---------------------------------------------------------------------------------------------
@@ -97,6 +97,7 @@ class Shrinker:
             lines = self.drop_lines(lines)
             lines = self.shorten_pieces(lines)
             lines = self.plain_settings(lines)
+            lines = self.plain_rows(lines)
             if lines == before:
                 return lines
 
@@ -137,7 +138,7 @@ class Shrinker:
     def shorten_pieces(self, lines):
         for index, line in enumerate(lines):
             words = line.split(" ")
-            if words[0] == "bytes" and len(words) == 4 and is_piece(words[3]):
+            if words[0] == "bytes" and len(words) in (4, 5) and is_piece(words[3]):
                 self.shorten_piece(lines, index, words)
         return lines
 
@@ -147,7 +148,7 @@ class Shrinker:
         """
 
         def with_piece(piece):
-            return lines[:index] + [" ".join(words[:3] + [piece.hex().upper() or "-"])] + lines[index + 1:]
+            return lines[:index] + [" ".join(words[:3] + [piece.hex().upper() or "-"] + words[4:])] + lines[index + 1:]
 
         piece = bytes.fromhex(words[3])
         if len(piece) > 5 and piece[0] == 1 and number(piece[1:3]) == len(piece) - 5:
@@ -173,6 +174,16 @@ class Shrinker:
                         if self.differs(lines[:index] + [" ".join(plain)] + lines[index + 1:]) is not None:
                             words = plain
                 lines[index] = " ".join(words)
+        return lines
+
+    def plain_rows(self, lines):
+        """Leaves out the length of the lent row where it does not matter."""
+        for index, line in enumerate(lines):
+            words = line.split(" ")
+            usual = {"pass": 2, "bytes": 4}.get(words[0], len(words))
+            plain = lines[:index] + [" ".join(words[:usual])] + lines[index + 1:]
+            if len(words) > usual and self.differs(plain) is not None:
+                lines = plain
         return lines
 
 

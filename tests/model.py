@@ -1,9 +1,9 @@
 #!/usr/bin/env python3
-"""The box of 01-scope.md as a plain machine over joined bytes.
+"""The box of 01-scope.md, with request M-100 of 02, as a plain machine over joined bytes.
 
 This is the judge a proved implementation is held to, so it is written for a reader: the rules in
-01's order and words, one short function each.  Sentences of 01 stand in quotes.  It shares nothing
-with the implementation.
+01's order and words, one short function each.  Sentences of 01 stand in quotes; what is taken from
+M-100 says so.  It shares nothing with the implementation.
 
 Per connection the bytes taken since its opening are joined.  A whole message is cut off the front
 and served singly, so that at any time only the unfinished message is left of the joined bytes.
@@ -24,7 +24,7 @@ NOTHING_ENDED = 0                       # piece used up, nothing ended; or nothi
 SERVED = 1                              # served; reply length may be 0
 KEEP_ALIVE = 2                          # keep-alive byte
 NO_CONNECTION = 3                       # connection not 0 to 3, or not open
-SHORT_BUFFER = 4                        # reply buffer under 4,096
+SHORT_BUFFER = 4                        # reply buffer under 4,096; M-100: lent row under 31
 STRAY = 5                               # stray byte
 TOO_LONG = 6                            # N above 1,024
 BAD_CHECKSUM = 7                        # checksum differs and is not 0xFFFF
@@ -34,10 +34,13 @@ BAD_LENGTH = 10                         # content does not have the layout's len
 OUT_OF_RANGE = 11                       # action, request, channel, input, level or flags out of range
 ALREADY_OPEN = 12                       # opening one that is open
 BAD_RANK = 13                           # rank above 2
+FULL_QUEUE = 14                         # M-100: 31 pulses stand in the queue
+
+PULSES = 31                             # M-100: pulses that stand at most, and the least row that is lent for them
 
 
 class Refused(Exception):
-    """A message refused with a number from 8 to 11.  Raised before anything is changed."""
+    """A message refused with a number from 8 to 11, or 14.  Raised before anything is changed."""
 
     def __init__(self, answer):
         super().__init__(answer)
@@ -85,6 +88,17 @@ class Connection:
         self.monitor = monitor
         self.due = due
         self.joined = bytearray()
+
+
+class Pulse:
+    """M-100, a request that stands in the queue.  Of the states only those of masked relays count."""
+
+    __slots__ = ("mask", "states", "duration")
+
+    def __init__(self, mask, states, duration):
+        self.mask = mask
+        self.states = states & mask
+        self.duration = duration
 
 
 INPUT_IDS = tuple(0x01FF + 0x100 * k for k in range(8))         # din1 to din8
@@ -163,6 +177,8 @@ class Fields:
 class Box:
     LONGEST = 1024                      # longest content that is judged
     BUFFER = 4096                       # least reply buffer
+    PULSES = PULSES                     # most pulses that stand in the queue
+    ROW = PULSES                        # least row that is lent for them
 
     # Message types offered, each with the method that serves it.
     OFFERED = {
@@ -188,6 +204,9 @@ class Box:
         self.clock = 0
         self.connections = [Connection() for _ in range(4)]
         self.devices = dict(zip(INPUT_IDS + RELAY_IDS, self.inputs + self.relays))
+        self.queue = []                 # pulses, the running one first
+        self.left = 0                   # ms up to the running one's end
+        self.remembered = 0             # the relays' states at its beginning
 
     # -- alarms --------------------------------------------------------------------------------
 
@@ -224,7 +243,35 @@ class Box:
     def one_more(self, count):
         return min(count + 1, TOP32)
 
-    def pass_(self, d):
+    def pass_(self, d, row=PULSES):
+        """M-100: what comes of d ms is what comes of one ms, d times; 4 to a row under 31.
+
+        Nothing but growing happens before the running pulse's end, so the ms up to there are taken
+        in one step.  That this comes to the same as `one_ms` d times is tried in test_model.py.
+        """
+        if row < self.ROW:
+            return SHORT_BUFFER
+        while d:
+            step = min(d, self.left) if self.queue else d
+            self.grow(step)
+            self.run_down(step)
+            d -= step
+        return SERVED
+
+    def pass_by_ms(self, d, row=PULSES):
+        """The same by its definition."""
+        if row < self.ROW:
+            return SHORT_BUFFER
+        for _ in range(d):
+            self.one_ms()
+        return SERVED
+
+    def one_ms(self):
+        """M-100: first clock and usage, then the queue."""
+        self.grow(1)
+        self.run_down(1)
+
+    def grow(self, d):
         """'The clock, the usage of each input that is on and of each closed relay grow by d, each
         stopping at its largest 64-bit number.'
         """
@@ -235,10 +282,38 @@ class Box:
         for relay in self.relays:
             if relay.state:
                 relay.usage = self.grown(relay.usage, d)
-        return SERVED
 
     def grown(self, ms, d):
         return min(ms + d, TOP64)
+
+    def run_down(self, ms):
+        """So many ms of the running pulse, no more than it has left, are over.  M-100: the next begins in
+        the ms of its end, which is two changes and not one.
+        """
+        if self.queue:
+            self.left -= ms
+            if self.left == 0:
+                self.end()
+                if self.queue:
+                    self.begin()
+
+    def begin(self):
+        """The first pulse of the queue begins: the relays' states before it are remembered."""
+        pulse = self.queue[0]
+        self.left = pulse.duration
+        self.remembered = self.relay_states()
+        self.put_masked(pulse.mask, pulse.states)
+
+    def end(self):
+        """M-100: the relays in its mask go back to what they were at its beginning, whatever was done to
+        them meanwhile.  Its place is free again.
+        """
+        pulse = self.queue.pop(0)
+        self.put_masked(pulse.mask, self.remembered)
+
+    def relay_states(self):
+        """As a number, lowest bit relay 1."""
+        return sum(relay.state << k for k, relay in enumerate(self.relays))
 
     def open(self, c, rank):
         """'Open a connection at a rank: fresh, Monitor on, due if rank is 1 or 2.'  Checked in the
@@ -286,22 +361,22 @@ class Box:
     def is_open(self, c):
         return c <= 3 and self.connections[c].open == 1
 
-    def refuse_call(self, c, cap):
+    def refuse_call(self, c, cap, row=PULSES):
         """3, then 4: judged before any byte, for an empty piece too.  'Only byte and collect calls
-        have a reply buffer and can answer 4.'  0 when the call may go on.
+        have a reply buffer'; a collection is lent no row.  0 when the call may go on.
         """
         if not self.is_open(c):
             return NO_CONNECTION
-        if cap < self.BUFFER:
+        if cap < self.BUFFER or row < self.ROW:
             return SHORT_BUFFER
         return 0
 
-    def bytes_(self, c, cap, piece):
+    def bytes_(self, c, cap, piece, row=PULSES):
         """'The bytes of a piece are taken one by one until a message ends or the piece does.  Taken is
         then fixed: through the byte that ended it, or the whole piece.'  Answers the number, the
         bytes taken and the reply.
         """
-        refused = self.refuse_call(c, cap)
+        refused = self.refuse_call(c, cap, row)
         if refused:
             return refused, 0, b""
         conn = self.connections[c]
@@ -433,30 +508,68 @@ class Box:
         return b""
 
     def command(self, conn, fields):
-        """10: '4 bytes in all.'  The action is judged first, then the length, then the channel.  'Actions
-        4, 6, 7: 11.  No reply.'
+        """10: '4 bytes in all', 8 for the pulses of M-100.  The action is judged first, then the length, then
+        the channel.  No reply.
         """
         action = fields.number(1)
-        if action not in (1, 2, 3, 5, 8, 9, 10):
+        if action not in (1, 2, 3, 5, 6, 7, 8, 9, 10):
             raise Refused(OUT_OF_RANGE)
-        if action == 10:
+        if action == 6:
+            self.channel_pulse(fields)
+        elif action == 7:
+            self.block_pulse(fields)
+        elif action == 10:
             mask, state = fields.number(1), fields.number(1)
             fields.end()
             self.block_change(mask, state)
         else:
             channel = fields.number(2)
             fields.end()
-            if not 1 <= channel <= 8:
-                raise Refused(OUT_OF_RANGE)
-            self.channel_action(action, self.inputs[channel - 1], self.relays[channel - 1])
+            inp, relay = [self.of_channel(devices, channel) for devices in (self.inputs, self.relays)]
+            self.channel_action(action, inp, relay)
         return b""
+
+    def of_channel(self, devices, channel):
+        """'A channel (2 bytes, 1 to 8).'"""
+        if not 1 <= channel <= 8:
+            raise Refused(OUT_OF_RANGE)
+        return devices[channel - 1]
+
+    def channel_pulse(self, fields):
+        """Action 6, 001: channel (2), duration (4).  M-100: it closes the relay for that long, which is the
+        pulse with the relay alone in its mask, and closed.
+        """
+        channel, duration = fields.number(2), fields.number(4)
+        fields.end()
+        self.of_channel(self.relays, channel)
+        self.pulse(1 << channel - 1, 1 << channel - 1, duration)
+
+    def block_pulse(self, fields):
+        """Action 7, 001: mask (1), states (1), duration (4), lowest bit channel 1."""
+        mask, states, duration = fields.number(1), fields.number(1), fields.number(4)
+        fields.end()
+        self.pulse(mask, states, duration)
+
+    def pulse(self, mask, states, duration):
+        """M-100: 11 for duration 0, then 14 for a full queue.  Where no other stands, the pulse begins here."""
+        if duration == 0:
+            raise Refused(OUT_OF_RANGE)
+        if len(self.queue) >= self.PULSES:
+            raise Refused(FULL_QUEUE)
+        self.queue.append(Pulse(mask, states, duration))
+        if len(self.queue) == 1:
+            self.begin()
 
     def block_change(self, mask, state):
         """'Mask byte, state byte, lowest bit channel 1; only masked relays take the state.'"""
+        self.put_masked(mask, state)
+
+    def put_masked(self, mask, states):
+        """One change, of all masked relays together."""
         really = False
         for k, relay in enumerate(self.relays):
             if mask >> k & 1:
-                really |= self.put_relay(relay, state >> k & 1)
+                really |= self.put_relay(relay, states >> k & 1)
         if really:
             self.changed()
 
@@ -585,13 +698,23 @@ class Box:
 
     def state(self):
         """`C` clock `I` eight times level,count,usage `R` eight times state,usage `N` four times
-        open,rank,monitor,due,got.
+        open,rank,monitor,due,got `P` the queue.
         """
         inputs = " ".join([f"{i.level},{i.count},{i.usage}" for i in self.inputs])
         relays = " ".join([f"{r.state},{r.usage}" for r in self.relays])
         connections = " ".join([f"{c.open},{c.rank},{c.monitor},{c.due},{self.got(c)}"
                                 for c in self.connections])
-        return f"C {self.clock} I {inputs} R {relays} N {connections}"
+        return f"C {self.clock} I {inputs} R {relays} N {connections} P {self.queue_shown()}"
+
+    def queue_shown(self):
+        """How many pulses stand, then of each, the running one first, mask,states,left; 'left: ms to its end;
+        of a waiting one its duration'.  If one runs, `was` and its relays' bits at its beginning.
+        """
+        if not self.queue:
+            return "0"
+        running, lefts = self.queue[0], [self.left] + [pulse.duration for pulse in self.queue[1:]]
+        pulses = " ".join([f"{pulse.mask},{pulse.states},{left}" for pulse, left in zip(self.queue, lefts)])
+        return f"{len(self.queue)} {pulses} was {self.remembered & running.mask}"
 
     def got(self, conn):
         """How many bytes of a half-read message have been taken."""
@@ -605,9 +728,9 @@ class Box:
             return "?"
 
     def obey(self, name, *words):
-        if name == "bytes" and len(words) == 3:
+        if name == "bytes" and len(words) >= 3:
             c, cap = numbers(words[:2], (255, 65536))
-            answer, taken, reply = self.bytes_(c, cap, piece_of(words[2]))
+            answer, taken, reply = self.bytes_(c, cap, piece_of(words[2]), row_of(words[3:]))
             return f"{answer} {taken} {len(reply)} {shown(reply)}"
         if name == "collect":
             answer, reply = self.collect(*numbers(words, (255, 65536)))
@@ -615,7 +738,7 @@ class Box:
         if name == "level":
             return str(self.level(*numbers(words, (255, 255))))
         if name == "pass":
-            return str(self.pass_(*numbers(words, (TOP32,))))
+            return str(self.pass_(*numbers(words[:1], (TOP32,)), row_of(words[1:])))
         if name == "open":
             return str(self.open(*numbers(words, (255, 255))))
         if name == "close":
@@ -654,6 +777,11 @@ def numbers(words, tops):
             raise BadLine
         values.append(int(word))
     return values
+
+
+def row_of(words):
+    """'ROW: the length of the row that is lent for this call, 0 to 64; without it, 31.'"""
+    return numbers(words, (64,))[0] if words else PULSES
 
 
 def piece_of(word):

@@ -16,7 +16,7 @@ import time
 import model
 import traces
 from model import (Box, Fields, Refused, crc16, field, number, BAD_CHECKSUM, BAD_LENGTH, KEEP_ALIVE, NOT_OFFERED,
-                   NOTHING_ENDED, OUT_OF_RANGE, SERVED, TOO_LONG, TOP32, TOP64)
+                   NOTHING_ENDED, OUT_OF_RANGE, PULSES, SERVED, TOO_LONG, TOP32, TOP64)
 
 MUTANTS = {}
 
@@ -167,12 +167,11 @@ class _(Box):
 
 @named("usage grows while off or open")
 class _(Box):
-    def pass_(self, d):
+    def grow(self, d):
         before = [relay.usage for relay in self.relays]
-        super().pass_(d)
+        super().grow(d)
         for relay, usage in zip(self.relays, before):
             relay.usage = self.grown(usage, d)
-        return SERVED
 
 
 @named("clock setting changes usage")
@@ -392,10 +391,10 @@ class _(Box):
 class OneStore(Box):
     """The bytes_ of a box with one half-read store."""
 
-    def bytes_(self, c, cap, piece):
+    def bytes_(self, c, cap, piece, row=PULSES):
         if c <= 3:
             self.connections[c].joined = self.store
-        answer = super().bytes_(c, cap, piece)
+        answer = super().bytes_(c, cap, piece, row)
         if c <= 3:
             self.store = self.connections[c].joined
         return answer
@@ -412,8 +411,8 @@ class _(OneStore):
 
 @named("checksum judged before the last byte is in")
 class _(Box):
-    def bytes_(self, c, cap, piece):
-        if self.refuse_call(c, cap) == 0:
+    def bytes_(self, c, cap, piece, row=PULSES):
+        if self.refuse_call(c, cap, row) == 0:
             joined = self.connections[c].joined + piece
             if len(joined) >= 5 and joined[0] == 1:
                 size = number(joined[1:3])
@@ -423,7 +422,7 @@ class _(Box):
                         taken = max(0, 4 + size - len(self.connections[c].joined))
                         self.connections[c].joined = bytearray()
                         return BAD_CHECKSUM, taken, b""
-        return super().bytes_(c, cap, piece)
+        return super().bytes_(c, cap, piece, row)
 
 
 @named("checksum without the last byte")
@@ -460,18 +459,18 @@ class _(Box):
 
 @named("0x06 inside content a keep-alive")
 class _(Box):
-    def bytes_(self, c, cap, piece):
-        if self.refuse_call(c, cap) == 0 and len(self.connections[c].joined) > 5 and piece[:1] == b"\x06":
+    def bytes_(self, c, cap, piece, row=PULSES):
+        if self.refuse_call(c, cap, row) == 0 and len(self.connections[c].joined) > 5 and piece[:1] == b"\x06":
             return KEEP_ALIVE, 1, b""
-        return super().bytes_(c, cap, piece)
+        return super().bytes_(c, cap, piece, row)
 
 
 @named("0x01 inside content begins a frame")
 class _(Box):
-    def bytes_(self, c, cap, piece):
-        if self.refuse_call(c, cap) == 0 and len(self.connections[c].joined) > 5 and piece[:1] == b"\x01":
+    def bytes_(self, c, cap, piece, row=PULSES):
+        if self.refuse_call(c, cap, row) == 0 and len(self.connections[c].joined) > 5 and piece[:1] == b"\x01":
             self.connections[c].joined = bytearray()
-        return super().bytes_(c, cap, piece)
+        return super().bytes_(c, cap, piece, row)
 
 
 @named("stray byte taken for a keep-alive")
@@ -482,8 +481,8 @@ class _(Box):
 
 @named("taken one byte past the end")
 class _(Box):
-    def bytes_(self, c, cap, piece):
-        answer, taken, reply = super().bytes_(c, cap, piece)
+    def bytes_(self, c, cap, piece, row=PULSES):
+        answer, taken, reply = super().bytes_(c, cap, piece, row)
         if answer == SERVED and taken < len(piece):
             taken += 1
         return answer, taken, reply
@@ -491,15 +490,15 @@ class _(Box):
 
 @named("all of the piece taken though a message ended in it")
 class _(Box):
-    def bytes_(self, c, cap, piece):
-        answer, taken, reply = super().bytes_(c, cap, piece)
+    def bytes_(self, c, cap, piece, row=PULSES):
+        answer, taken, reply = super().bytes_(c, cap, piece, row)
         return answer, len(piece) if answer in (7, 8, 9, 10, 11) else taken, reply
 
 
 @named("strays skipped in one call")
 class _(Box):
-    def bytes_(self, c, cap, piece):
-        answer, taken, reply = super().bytes_(c, cap, piece)
+    def bytes_(self, c, cap, piece, row=PULSES):
+        answer, taken, reply = super().bytes_(c, cap, piece, row)
         if answer == model.STRAY:
             while taken < len(piece) and piece[taken] not in (1, 6):
                 taken += 1
@@ -559,10 +558,10 @@ class _(Box):
 
 @named("buffer not judged for an empty piece")
 class _(Box):
-    def bytes_(self, c, cap, piece):
+    def bytes_(self, c, cap, piece, row=PULSES):
         if not piece and self.is_open(c):
             cap = 4096
-        return super().bytes_(c, cap, piece)
+        return super().bytes_(c, cap, piece, row)
 
 
 @named("buffer not judged where nothing is due")
@@ -575,9 +574,9 @@ class _(Box):
 
 @named("buffer judged after the bytes are taken")
 class _(Box):
-    def bytes_(self, c, cap, piece):
-        answer = super().bytes_(c, cap, piece)
-        if answer[0] == model.SHORT_BUFFER and super().bytes_(c, 4096, piece)[0] == NOTHING_ENDED:
+    def bytes_(self, c, cap, piece, row=PULSES):
+        answer = super().bytes_(c, cap, piece, row)
+        if cap < 4096 and self.is_open(c) and super().bytes_(c, 4096, piece, row)[0] == NOTHING_ENDED:
             return model.SHORT_BUFFER, 0, b""
         return answer
 
@@ -624,7 +623,7 @@ class _(Box):
 @named("length judged before the action")
 class _(Box):
     def command(self, conn, fields):
-        if len(fields.content) != 4:
+        if len(fields.content) not in (4, 8):
             raise Refused(BAD_LENGTH)
         return super().command(conn, fields)
 
@@ -850,6 +849,735 @@ class _(Box):
         return answer[:4] + answer[68:] + answer[4:68]
 
 
+# -- pulses: M-100 -------------------------------------------------------------------------------------
+
+def pulsing(fields):
+    """Whether a command has the length and an action of a pulse."""
+    return len(fields.content) == 8 and fields.content[1] in (6, 7)
+
+
+def duration_of(fields):
+    return number(fields.content[4:])
+
+
+def with_duration(fields, duration):
+    return Fields(fields.content[:4] + field(duration, 4), fields.position)
+
+
+@named("pulse end opens always")
+class _(Box):
+    def end(self):
+        self.remembered = 0
+        super().end()
+
+
+@named("pulse end turns the masked relays round")
+class _(Box):
+    def end(self):
+        self.remembered = self.relay_states() ^ 0xFF
+        super().end()
+
+
+@named("pulse ends before usage grows")
+class _(Box):
+    def grow(self, d):
+        self.last = 1 if self.queue and d == self.left else 0
+        super().grow(d - self.last)
+
+    def run_down(self, ms):
+        super().run_down(ms)
+        if self.last:
+            super().grow(1)
+
+
+@named("pulse lasts one ms longer")
+class _(Box):
+    def begin(self):
+        super().begin()
+        self.left += 1
+
+
+@named("second pulse begins a ms late")
+class _(Box):
+    def run_down(self, ms):
+        if self.resting:
+            self.resting = False
+            self.begin()
+        else:
+            super().run_down(ms)
+
+    def begin(self):
+        if len(self.queue) < self.stood:            # begun by an end, not by a message
+            self.resting, self.left = True, 1
+            self.stood = 0
+        else:
+            super().begin()
+            self.stood = 0
+
+    def end(self):
+        self.stood = len(self.queue)
+        super().end()
+
+    def power(self, *settings):
+        super().power(*settings)
+        self.resting, self.stood = False, 0
+
+
+@named("next pulse begins before the last one ends")
+class _(Box):
+    def run_down(self, ms):
+        if len(self.queue) > 1 and ms == self.left:
+            ended, before = self.queue.pop(0), self.remembered
+            self.begin()
+            self.put_masked(ended.mask, before)
+        else:
+            super().run_down(ms)
+
+
+@named("32nd pulse accepted")
+class _(Box):
+    PULSES = 32
+
+
+@named("31st pulse refused")
+class _(Box):
+    PULSES = 30
+
+
+@named("full queue answered as out of range")
+class _(Box):
+    def pulse(self, mask, states, duration):
+        if len(self.queue) >= 31:
+            raise Refused(OUT_OF_RANGE)
+        super().pulse(mask, states, duration)
+
+
+@named("full queue judged before the duration")
+class _(Box):
+    def pulse(self, mask, states, duration):
+        if len(self.queue) >= 31:
+            raise Refused(model.FULL_QUEUE)
+        super().pulse(mask, states, duration)
+
+
+@named("full queue judged before the channel")
+class _(Box):
+    def command(self, conn, fields):
+        if pulsing(fields) and fields.content[1] == 6 and duration_of(fields) and len(self.queue) >= 31:
+            raise Refused(model.FULL_QUEUE)
+        return super().command(conn, fields)
+
+
+@named("full queue judged before the length")
+class _(Box):
+    def command(self, conn, fields):
+        if len(fields.content) > 1 and fields.content[1] in (6, 7) and len(fields.content) != 8 and len(self.queue) >= 31:
+            raise Refused(model.FULL_QUEUE)
+        return super().command(conn, fields)
+
+
+@named("full queue refuses every command")
+class _(Box):
+    def command(self, conn, fields):
+        if len(fields.content) == 4 and len(self.queue) >= 31:
+            raise Refused(model.FULL_QUEUE)
+        return super().command(conn, fields)
+
+
+@named("a pulse that finds no place takes the last one's")
+class _(Box):
+    def pulse(self, mask, states, duration):
+        try:
+            super().pulse(mask, states, duration)
+        except Refused as refusal:
+            if refusal.answer == model.FULL_QUEUE:
+                self.queue[-1] = model.Pulse(mask, states, duration)
+            raise
+
+
+@named("duration 0 accepted")
+class _(Box):
+    def pulse(self, mask, states, duration):
+        if duration:
+            super().pulse(mask, states, duration)
+
+
+@named("duration 0 taken for one ms")
+class _(Box):
+    def pulse(self, mask, states, duration):
+        super().pulse(mask, states, max(duration, 1))
+
+
+@named("duration 0 judged before the length")
+class _(Box):
+    def command(self, conn, fields):
+        if len(fields.content) > 8 and fields.content[1] in (6, 7) and fields.content[4:8] == bytes(4):
+            raise Refused(OUT_OF_RANGE)
+        return super().command(conn, fields)
+
+
+@named("duration little-endian")
+class _(Box):
+    def command(self, conn, fields):
+        if pulsing(fields):
+            fields = with_duration(fields, int.from_bytes(fields.content[4:], "little"))
+        return super().command(conn, fields)
+
+
+@named("duration cut to 16 bits")
+class _(Box):
+    def command(self, conn, fields):
+        if pulsing(fields) and duration_of(fields) & 0xFFFF:
+            fields = with_duration(fields, duration_of(fields) & 0xFFFF)
+        return super().command(conn, fields)
+
+
+@named("duration above 2147483647 refused")
+class _(Box):
+    def pulse(self, mask, states, duration):
+        super().pulse(mask, states, 0 if duration >> 31 else duration)
+
+
+@named("pulse of 7 bytes let through")
+class _(Box):
+    def command(self, conn, fields):
+        if len(fields.content) == 7 and fields.content[1] in (6, 7):
+            fields = Fields(fields.content + b"\x00", fields.position)
+        return super().command(conn, fields)
+
+
+@named("pulse of 9 bytes let through")
+class _(Box):
+    def command(self, conn, fields):
+        if len(fields.content) == 9 and fields.content[1] in (6, 7):
+            fields = Fields(fields.content[:8], fields.position)
+        return super().command(conn, fields)
+
+
+@named("block pulse for 16 relays served")
+class _(Box):
+    def command(self, conn, fields):
+        content = fields.content
+        if len(content) == 10 and content[1] == 7:
+            fields = Fields(content[:2] + content[3:4] + content[5:], fields.position)
+        return super().command(conn, fields)
+
+
+@named("action 6 refused")
+class _(Box):
+    def command(self, conn, fields):
+        if fields.content[1:2] == b"\x06":
+            raise Refused(OUT_OF_RANGE)
+        return super().command(conn, fields)
+
+
+@named("pulse's length judged before an unknown action")
+class _(Box):
+    def command(self, conn, fields):
+        if len(fields.content) == 8 and fields.content[1] not in (6, 7):
+            raise Refused(BAD_LENGTH)
+        return super().command(conn, fields)
+
+
+@named("pulse's channel: high byte not looked at")
+class _(Box):
+    def command(self, conn, fields):
+        if pulsing(fields) and fields.content[1] == 6:
+            fields = Fields(fields.content[:2] + b"\x00" + fields.content[3:], fields.position)
+        return super().command(conn, fields)
+
+
+@named("pulse's channel judged before the length")
+class _(Box):
+    def command(self, conn, fields):
+        content = fields.content
+        if len(content) >= 4 and content[1] == 6 and not 1 <= number(content[2:4]) <= 8:
+            raise Refused(OUT_OF_RANGE)
+        return super().command(conn, fields)
+
+
+@named("pulse of channel 9 served as one of no relay")
+class _(Box):
+    def channel_pulse(self, fields):
+        if fields.content[2:4] == b"\x00\x09" and pulsing(fields):
+            self.pulse(0, 0, duration_of(fields))
+        else:
+            super().channel_pulse(fields)
+
+
+@named("pulse of one channel toggles its relay")
+class _(Box):
+    def channel_pulse(self, fields):
+        before, stood = self.relay_states(), len(self.queue)
+        super().channel_pulse(fields)
+        if not stood:
+            self.put_masked(self.queue[0].mask, ~before)
+
+
+@named("pulse of one channel takes all other relays along")
+class _(Box):
+    def channel_pulse(self, fields):
+        super().channel_pulse(fields)
+        self.queue[-1].mask = 0xFF
+
+
+@named("action 7's mask and states swapped")
+class _(Box):
+    def command(self, conn, fields):
+        content = fields.content
+        if pulsing(fields) and content[1] == 7:
+            fields = Fields(content[:2] + content[3:4] + content[2:3] + content[4:], fields.position)
+        return super().command(conn, fields)
+
+
+@named("action 7's highest bit is channel 1")
+class _(Box):
+    def block_pulse(self, fields):
+        turned = bytes(int(f"{byte:08b}"[::-1], 2) for byte in fields.content[2:4])
+        super().block_pulse(Fields(fields.content[:2] + turned + fields.content[4:], fields.position))
+
+
+@named("mask ignored at the pulse's end")
+class _(Box):
+    def end(self):
+        self.queue[0].mask = 0xFF
+        super().end()
+
+
+@named("mask ignored at the pulse's beginning")
+class _(Box):
+    def begin(self):
+        super().begin()
+        self.put_masked(0xFF if self.queue[0].mask else 0, self.queue[0].states)
+
+
+@named("unmasked states used")
+class _(Box):
+    def pulse(self, mask, states, duration):
+        super().pulse(mask, states, duration)
+        self.queue[-1].states = states
+        if len(self.queue) == 1:
+            self.put_masked(0xFF, states)
+
+    def begin(self):
+        super().begin()
+        self.put_masked(0xFF, self.queue[0].states)
+
+
+@named("unmasked states shown")
+class _(Box):
+    def pulse(self, mask, states, duration):
+        super().pulse(mask, states, duration)
+        self.queue[-1].states = states
+
+
+@named("pulse of mask 0 not queued")
+class _(Box):
+    def pulse(self, mask, states, duration):
+        if mask or not duration:
+            super().pulse(mask, states, duration)
+
+
+@named("pulse of mask 0 refused")
+class _(Box):
+    def pulse(self, mask, states, duration):
+        super().pulse(mask, states, duration if mask else 0)
+
+
+@named("pulse of mask 0 ends at once")
+class _(Box):
+    def begin(self):
+        super().begin()
+        while self.queue and not self.queue[0].mask:
+            self.queue.pop(0)
+            if self.queue:
+                super().begin()
+
+
+@named("states remembered at acceptance instead of beginning")
+class _(Box):
+    def pulse(self, mask, states, duration):
+        before = self.relay_states()
+        super().pulse(mask, states, duration)
+        self.accepted.append(before)
+
+    def end(self):
+        self.remembered = self.accepted.pop(0)
+        super().end()
+
+    def power(self, *settings):
+        super().power(*settings)
+        self.accepted = []
+
+
+@named("states remembered once for all pulses of a queue")
+class _(Box):
+    def begin(self):
+        first = self.first
+        super().begin()
+        self.first = self.remembered = self.remembered if first is None else first
+
+    def end(self):
+        super().end()
+        if not self.queue:
+            self.first = None
+
+    def power(self, *settings):
+        super().power(*settings)
+        self.first = None
+
+
+@named("states remembered after the beginning")
+class _(Box):
+    def begin(self):
+        super().begin()
+        self.remembered = self.relay_states()
+
+
+@named("states of a command remembered")
+class _(Box):
+    def channel_action(self, action, inp, relay):
+        super().channel_action(action, inp, relay)
+        if action in (1, 2, 3):
+            self.remembered = self.relay_states()
+
+
+@named("relays that a command changed meanwhile do not return")
+class _(Box):
+    def end(self):
+        pulse = self.queue[0]
+        pulse.mask &= ~(self.relay_states() ^ pulse.states)
+        super().end()
+
+
+@named("a command ends the running pulse")
+class _(Box):
+    def channel_action(self, action, inp, relay):
+        if action in (1, 2, 3) and self.queue:
+            self.run_down(self.left)
+        super().channel_action(action, inp, relay)
+
+
+@named("a block ends the running pulse")
+class _(Box):
+    def block_change(self, mask, state):
+        if self.queue and mask & self.queue[0].mask:
+            self.run_down(self.left)
+        super().block_change(mask, state)
+
+
+@named("a write entry to a pulsed relay fails")
+class _(Box):
+    def write_relay(self, relay, block):
+        mask = self.queue[0].mask if self.queue else 0
+        pulsed = mask >> self.relays.index(relay) & 1
+        return not (pulsed and block[:1] == b"\x01") and super().write_relay(relay, block)
+
+
+@named("a new pulse ends the running one")
+class _(Box):
+    def pulse(self, mask, states, duration):
+        super().pulse(mask, states, duration)
+        if len(self.queue) == 2:
+            self.run_down(self.left)
+
+
+@named("a new pulse of the same relays lengthens the running one")
+class _(Box):
+    def pulse(self, mask, states, duration):
+        super().pulse(mask, states, duration)
+        if len(self.queue) == 2 and self.queue[0].mask == mask and mask:
+            self.queue.pop()
+            self.left += duration
+
+
+@named("last come first run")
+class _(Box):
+    def end(self):
+        super().end()
+        self.queue[:] = self.queue[-1:] + self.queue[:-1]
+
+
+@named("finished place not used again")
+class _(Box):
+    def pulse(self, mask, states, duration):
+        if duration and self.used == 31:
+            raise Refused(model.FULL_QUEUE)
+        super().pulse(mask, states, duration)
+        self.used += 1
+
+    def power(self, *settings):
+        super().power(*settings)
+        self.used = 0
+
+
+@named("finished places used again only after the last end")
+class _(Box):
+    def pulse(self, mask, states, duration):
+        self.used = self.used if self.queue else 0
+        if duration and self.used == 31:
+            raise Refused(model.FULL_QUEUE)
+        super().pulse(mask, states, duration)
+        self.used += 1
+
+    def power(self, *settings):
+        super().power(*settings)
+        self.used = 0
+
+
+@named("pulses' beginnings not marked")
+class _(Box):
+    def begin(self):
+        before = [conn.due for conn in self.connections]
+        super().begin()
+        for conn, due in zip(self.connections, before):
+            conn.due = due
+
+
+@named("pulses' ends not marked")
+class _(Box):
+    def end(self):
+        before = [conn.due for conn in self.connections]
+        super().end()
+        for conn, due in zip(self.connections, before):
+            conn.due = due
+
+
+@named("beginning marks where no relay changed")
+class _(Box):
+    def begin(self):
+        super().begin()
+        self.changed()
+
+
+@named("end marks where no relay changed")
+class _(Box):
+    def end(self):
+        super().end()
+        self.changed()
+
+
+class OneChange(Box):
+    """Judges by the relays' states before and after several steps whether something changed."""
+
+    def as_one(self, steps):
+        states, marks = self.relay_states(), [conn.due for conn in self.connections]
+        answer = steps()
+        if states == self.relay_states():
+            for conn, due in zip(self.connections, marks):
+                conn.due = due
+        return answer
+
+
+@named("end and beginning as one change")
+class _(OneChange):
+    def run_down(self, ms):
+        self.as_one(lambda: Box.run_down(self, ms))
+
+
+@named("all ends and beginnings of a pass as one change")
+class _(OneChange):
+    def pass_(self, d, row=PULSES):
+        return self.as_one(lambda: Box.pass_(self, d, row))
+
+
+@named("usage of a whole pass by the states before it")
+class _(Box):
+    def pass_(self, d, row=PULSES):
+        if row >= 31:
+            super().grow(d)
+        self.growing = False
+        answer = super().pass_(d, row)
+        self.growing = True
+        return answer
+
+    def grow(self, d):
+        if self.growing:
+            super().grow(d)
+
+    def power(self, *settings):
+        super().power(*settings)
+        self.growing = True
+
+
+@named("a pass ends one pulse at most")
+class _(Box):
+    def pass_(self, d, row=PULSES):
+        behind = sum(pulse.duration for pulse in self.queue[1:2])
+        late = d - self.left - behind + 1 if behind else 0
+        answer = super().pass_(d - max(late, 0), row)
+        if answer == SERVED and late > 0:
+            self.grow(late)
+        return answer
+
+
+@named("only the last pulse of a long pass ends")
+class _(Box):
+    def pass_(self, d, row=PULSES):
+        self.ends, over = 0, d - self.left
+        for pulse in self.queue[1:] + [None]:
+            self.ends += over >= 0
+            over -= pulse.duration if pulse else 0
+        return super().pass_(d, row)
+
+    def end(self):
+        self.ends -= 1
+        if self.ends:
+            self.queue[0].mask = 0
+        super().end()
+
+
+@named("the rest of a pass after an end is lost to the next pulse")
+class _(Box):
+    def pass_(self, d, row=PULSES):
+        rest = d - self.left if self.queue else 0
+        answer = super().pass_(d - max(rest, 0), row)
+        if answer == SERVED and rest > 0:
+            self.grow(rest)
+        return answer
+
+
+@named("the time of waiting pulses runs too")
+class _(Box):
+    def run_down(self, ms):
+        for pulse in self.queue[1:]:
+            pulse.duration = max(pulse.duration - ms, 1)
+        super().run_down(ms)
+
+
+@named("d = 0 takes one ms off the running pulse")
+class _(Box):
+    def pass_(self, d, row=PULSES):
+        if d == 0 and self.queue and row >= 31:
+            self.run_down(1)
+        return super().pass_(d, row)
+
+
+@named("clock setting shifts the end")
+class _(Box):
+    def set_clock(self, conn, fields):
+        end = self.clock + self.left
+        super().set_clock(conn, fields)
+        if self.queue:
+            self.left = min(max(end - self.clock, 1), TOP32)
+        return b""
+
+
+@named("pulse stands still while the clock is at its top")
+class _(Box):
+    def pass_(self, d, row=PULSES):
+        moving = min(d, TOP64 - self.clock)
+        answer = super().pass_(moving, row)
+        if answer == SERVED:
+            self.grow(d - moving)
+        return answer
+
+
+@named("closing drops the waiting pulses")
+class _(Box):
+    def close(self, c):
+        answer = super().close(c)
+        if answer == SERVED and self.queue:
+            del self.queue[1:]
+        return answer
+
+
+@named("power-up leaves the queue")
+class _(Box):
+    def power(self, *settings):
+        kept = getattr(self, "queue", [])
+        super().power(*settings)
+        self.queue = kept
+        if kept:
+            self.begin()
+
+
+@named("pulse served at rank 0")
+class _(Box):
+    def serve(self, conn, content):
+        if conn.rank == 0 and len(content) == 8 and content[0] == 10 and content[1] in (6, 7):
+            return self.command(conn, Fields(content, 1))
+        return super().serve(conn, content)
+
+
+@named("row of 30 served")
+class _(Box):
+    ROW = 30
+
+
+@named("row of 31 refused")
+class _(Box):
+    ROW = 32
+
+
+@named("row of 64 refused")
+class _(Box):
+    def pass_(self, d, row=PULSES):
+        return super().pass_(d, row if row < 64 else 0)
+
+
+@named("row not judged for bytes")
+class _(Box):
+    def bytes_(self, c, cap, piece, row=PULSES):
+        return super().bytes_(c, cap, piece)
+
+
+@named("row judged only where a pulse is asked for")
+class _(Box):
+    def bytes_(self, c, cap, piece, row=PULSES):
+        asked = b"\x0A\x06" in piece or b"\x0A\x07" in piece
+        return super().bytes_(c, cap, piece, row if asked else PULSES)
+
+
+@named("row not judged for an empty piece")
+class _(Box):
+    def bytes_(self, c, cap, piece, row=PULSES):
+        return super().bytes_(c, cap, piece, row if piece else PULSES)
+
+
+@named("row judged before the connection")
+class _(Box):
+    def bytes_(self, c, cap, piece, row=PULSES):
+        if row < 31:
+            return model.SHORT_BUFFER, 0, b""
+        return super().bytes_(c, cap, piece, row)
+
+
+@named("row judged after the bytes are taken")
+class _(Box):
+    def bytes_(self, c, cap, piece, row=PULSES):
+        answer = super().bytes_(c, cap, piece, row)
+        if row < 31 and self.is_open(c) and super().bytes_(c, cap, piece)[0] == NOTHING_ENDED:
+            return model.SHORT_BUFFER, 0, b""
+        return answer
+
+
+@named("row not judged for time")
+class _(Box):
+    def pass_(self, d, row=PULSES):
+        return super().pass_(d)
+
+
+@named("row judged for time only where a pulse runs")
+class _(Box):
+    def pass_(self, d, row=PULSES):
+        return super().pass_(d, row if self.queue else PULSES)
+
+
+@named("row not judged for d = 0")
+class _(Box):
+    def pass_(self, d, row=PULSES):
+        return super().pass_(d, row if d else PULSES)
+
+
+@named("time passes though the row is short")
+class _(Box):
+    def pass_(self, d, row=PULSES):
+        if row < 31:
+            self.grow(d)
+        return super().pass_(d, row)
+
+
 # -- lines -------------------------------------------------------------------------------------------
 
 @named("lower-case digits let through")
@@ -862,8 +1590,8 @@ class _(Box):
 class _(Box):
     def line(self, text):
         words = text.split(" ")
-        if words[0] == "pass" and len(words) == 2 and words[1].isdigit():
-            text = f"pass {int(words[1]) & TOP32}"
+        if words[0] == "pass" and len(words) > 1 and words[1].isdigit():
+            text = " ".join(["pass", str(int(words[1]) & TOP32)] + words[2:])
         return super().line(text)
 
 

@@ -49,20 +49,42 @@ for path in glob.glob("crates/*/proofs/Unique*.antt"):
     for crate, function, alias in re.findall(r"(?m)^use Rattle·(\w+?)(?:·proofs)?\.proofs(?:\.proofs)?\.(\w+)\.Reads as (\S+)$", text):
         if re.search(r"(?m)^pub unique-\S+ : .* → %s\.Post κs a r s → %s\.Post κs a r′ s′\s+→ " % (re.escape(alias), re.escape(alias)), text):
             unique.add((crate, function))
+
+# A function over the lent row of pulses is proved by hand, which gives its contract no name: the lemma has it written out, under a line that
+# says whose it is, and must name every definition that the contract cites.
+written = {}
+for path in glob.glob("crates/*/proofs/Unique*.antt"):
+    text = read(path)
+    for crate, function in re.findall(r"(?m)^ *-- the contract of `(\w+)::(\w+)`, written out", text):
+        if re.search(r"(?m)^ *pub unique-%s : " % function.replace("wellacorn_", "").replace("_", "-"), text):
+            written[crate, function] = set(re.findall(r"\w+", text))
+
+
+def cited(source, head):
+    """The definitions that the promises of a function name: those that its file takes from specs/."""
+    taken = {n.strip() for names in re.findall(r"(?m)^ghost use Rattle·\S*specs\S*\.\{(.*)\};$", source) for n in names.split(",")}
+    return taken & set(re.findall(r"\w+", head))
+
+
 functions = 0
 for crate in crates:
     for path in glob.glob("crates/%s/src/**/*.rt" % crate, recursive=True):
-        for name, head in re.findall(r"(?ms)^\s*pub (?:extern \"C\" )?fn (\w+)(.*?)^\s*\{$", read(path)):
+        source = read(path)
+        for name, head in re.findall(r"(?ms)^\s*pub (?:extern \"C\" )?fn (\w+)(.*?)^\s*\{$", source):
             functions += 1
             if re.search(r"\brequires\b", head):
                 wrong.append("%s::%s counts on its caller: it has a requires" % (crate, name))
             if not re.search(r"\bensures\b", head):
                 wrong.append("%s::%s promises nothing: it has no ensures" % (crate, name))
-            if (crate, name) not in unique:
+            if (crate, name) in written:
+                for lost in sorted(cited(source, head) - written[crate, name]):
+                    wrong.append("the uniqueness lemma for %s::%s does not name %s, which its contract cites" % (crate, name, lost))
+            elif (crate, name) not in unique:
                 wrong.append("no uniqueness lemma for %s::%s" % (crate, name))
 
 for line in wrong:
     print("reading:", line)
 if wrong:
     sys.exit(1)
-print("reading: %d believed lines in %d files; %d public functions, each with its uniqueness lemma" % (total, len(rows), functions))
+print("reading: %d believed lines in %d files; %d public functions, each with its uniqueness lemma, %d on a contract written out"
+      % (total, len(rows), functions, len(written)))

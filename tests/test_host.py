@@ -4,7 +4,7 @@
     python3 tests/test_host.py              over target/host/boxd
     BOXD=boxd-san python3 tests/test_host.py    over the build with sanitizers
 
-Seeds are fixed, ports are free ones, and nothing waits for a fixed time but what is slowed down on purpose.
+Seeds are fixed, ports are free ones, and nothing waits for a fixed time but what is slowed down or held up on purpose.
 """
 
 import base64
@@ -12,6 +12,7 @@ import hashlib
 import hmac
 import os
 import random
+import re
 import signal
 import socket
 import subprocess
@@ -22,7 +23,8 @@ import time
 import unittest
 
 import traces
-from boxd import Boxd, CLOCK, Client, MONITOR, PATIENCE, PROGRAM, Program, ROOT, frame, judge, login, string
+from boxd import (Boxd, CLOCK, Client, HOW_MANY, MONITOR, PATIENCE, PROGRAM, Program, ROOT, block_pulse, frame, judge, login, pulse,
+                  string)
 from model import Box, INPUT_IDS, RELAY_IDS, field, number
 
 sys.path.insert(0, os.path.join(ROOT, "host"))
@@ -366,6 +368,141 @@ class Events(Case):
 
 
 # ---------------------------------------------------------------------------------------------
+# Pulses
+# ---------------------------------------------------------------------------------------------
+
+class Pulses(Case):
+    def relays(self, content):
+        """The relays that a Monitor message shows closed."""
+        return [k for k in range(1, 9) if content[80 + k]]
+
+    def usage(self, client, k):
+        """A relay's usage, by a message of type 21."""
+        return number(client.ask(frame(b"\x15\x00\x01" + field(RELAY_IDS[k - 1], 8)), 22)[14:22])
+
+    def how_many(self, client):
+        return client.ask(HOW_MANY, 254)[4]
+
+    def said(self, host, pattern):
+        """What the host said that fits, in its order, without the time of day."""
+        return [line.split(" ", 1)[1] for line in list(host.lines) if re.search(pattern, line)]
+
+    def test_begins_and_ends(self):
+        """The relay opens again by itself, in a box that nothing else wakes, and was closed for that long to the ms."""
+        with Boxd("--quiet", trace=True) as host, Client(host.port) as client:
+            self.assertEqual(self.relays(client.next()), [])
+            begun = time.monotonic()
+            client.send(pulse(3, 300))
+            self.assertEqual(self.relays(client.next()), [3])
+            self.assertEqual(self.relays(client.next()), [])
+            self.assertGreaterEqual(time.monotonic() - begun, 0.29)
+            self.assertEqual(self.usage(client, 3), 300)
+            client.finish()
+            host.quit()
+            judge(host, [client])
+        self.assertEqual(self.said(host, "pulse"), [
+            "connection 0 asked for a pulse of relay 3, 300 ms: it has begun; relay 3 is closed now",
+            "the pulse of relay 3, 300 ms, has ended; relay 3 is open now"])
+
+    def test_several_ends_at_once(self):
+        """A box that was held up tells several ends in one call, each in its turn; what then differs stands in the last line."""
+        with Boxd("--quiet", trace=True) as host, Client(host.port) as client:
+            client.send(frame(b"\x0A\x01\x00\x02") + pulse(1, 1500) + block_pulse(0x06, 0x04, 2) + pulse(8, 3) + block_pulse(0xC0, 0, 60000))
+            host.wait_for("waits behind 3 others")
+            host.process.send_signal(signal.SIGSTOP)
+            time.sleep(2)
+            before = len(host.lines)
+            host.process.send_signal(signal.SIGCONT)
+            host.wait_for("mask C0 state 00, 60000 ms, has begun", before)
+            self.assertEqual(self.how_many(client), 1)
+            self.assertEqual([self.usage(client, k) for k in (1, 3, 8)], [1500, 2, 3])
+            client.finish()
+            host.quit()
+            played = judge(host, [client])
+            self.assertEqual([relay.state for relay in played.box.relays], [0, 1] + [0] * 6)
+        self.assertEqual(self.said(host, "pulse of .* (has begun|has ended|waits)"), [
+            "connection 0 asked for a pulse of relay 1, 1500 ms: it has begun; relay 1 is closed now",
+            "connection 0 asked for a pulse of a block of relays, mask 06 state 04, 2 ms: it waits behind 1 other",
+            "connection 0 asked for a pulse of relay 8, 3 ms: it waits behind 2 others",
+            "connection 0 asked for a pulse of a block of relays, mask C0 state 00, 60000 ms: it waits behind 3 others",
+            "the pulse of relay 1, 1500 ms, has ended",
+            "the pulse of a block of relays, mask 06 state 04, 2 ms, has begun",
+            "the pulse of a block of relays, mask 06 state 04, 2 ms, has ended",
+            "the pulse of relay 8, 3 ms, has begun",
+            "the pulse of relay 8, 3 ms, has ended",
+            "the pulse of a block of relays, mask C0 state 00, 60000 ms, has begun; relay 1 is open now"])
+
+    def test_full_queue(self):
+        """31 stand at most: the next is refused and told why, and finished places are used again."""
+        with Boxd("--quiet", trace=True) as host, Client(host.port) as client, Client(host.port) as other:
+            client.send(pulse(1, 1500) + pulse(2, 1) * 30 + pulse(3, 1) + HOW_MANY)
+            self.assertEqual(client.next_of(254)[4], 31)
+            self.assertEqual(self.how_many(other), 31)
+            host.wait_for("connection 0 asked for a pulse of relay 2, 1 ms: it waits behind 30 others")
+            host.wait_for(r"refused \(14\): 31 pulses stand in the queue")
+            while self.how_many(other):
+                pass
+            client.send(pulse(4, 1) * 40)
+            while self.how_many(client):
+                pass
+            for one in (client, other):
+                one.finish()
+            host.quit()
+            played = judge(host, [client, other])
+        self.assertEqual(played.box.queue, [])
+        self.assertEqual(host.count("pulse of relay 2, 1 ms, has ended"), 30)
+        self.assertEqual(host.count("pulse of relay 3"), 0)
+        self.assertGreaterEqual(host.count("pulse of relay 4, 1 ms, has ended"), 31)
+        self.assertEqual(host.count("pulse of .* has ended"), host.count("pulse of .* has begun"))
+
+    def test_commands_meanwhile(self):
+        """What a client does to the relay while its pulse runs is undone at its end; a closed connection ends no pulse."""
+        with Boxd("--quiet", trace=True) as host, Client(host.port) as other:
+            self.assertEqual(self.relays(other.next()), [])
+            with Client(host.port) as client:
+                client.send(frame(b"\x0A\x01\x00\x05") + block_pulse(0x30, 0x20, 1500) + frame(b"\x0A\x0A\xFF\x11"))
+                client.finish()
+            host.wait_for("connection 1 closed")
+            self.assertEqual(self.how_many(other), 1)
+            while self.how_many(other):
+                pass
+            self.assertEqual(self.relays(other.ask(MONITOR, 1)), [1, 5])
+            other.finish()
+            host.quit()
+            judge(host, [client, other])
+        self.assertTrue(host.find("mask 30 state 20, 1500 ms, has ended$"))
+
+    def test_state(self):
+        """`state` tells each pulse that stands."""
+        with Boxd("--quiet") as host, Client(host.port) as client:
+            host.tell("state")
+            host.wait_for("state: no pulse stands in the queue")
+            client.send(pulse(2, 50000) + block_pulse(0x81, 0x01, 5) + pulse(7, 4294967295))
+            self.assertEqual(self.how_many(client), 3)
+            before = len(host.lines)
+            host.tell("state")
+            host.wait_for("connection 3 is free", before)
+            left = int(host.find(r"state: the pulse of relay 2, 50000 ms, runs: (\d+) ms left", before).group(1))
+            self.assertTrue(0 < left <= 50000)
+            self.assertEqual([line.split("state: ")[1] for line in host.lines[before:] if re.search("state: .* waits", line)],
+                             ["the pulse of a block of relays, mask 81 state 01, 5 ms, waits", "the pulse of relay 7, 4294967295 ms, waits"])
+            host.quit()
+
+    def test_how_many_is_asked_right(self):
+        """Another name, command type or payload is no question of this host: no answer, and 8 as before."""
+        asks = HOW_MANY[5:]
+        wrong = (asks[:-1], asks + b"\x00", asks[:-1] + b"\x01", asks[:-3] + b"\x01\x00\x00", asks.replace(b"pulses", b"Pulses"), b"\xFE" + asks[1:],
+                 asks[:1], asks[:8])
+        with Boxd("--quiet", trace=True) as host, Client(host.port) as client:
+            client.send(b"".join(frame(content) for content in wrong) + HOW_MANY)
+            self.assertEqual(client.next_of(254), b"\xFE\x00\x00\x01\x00")
+            client.finish()
+            host.quit()
+            judge(host, [client])
+        self.assertEqual(host.count(r"refused \(8\)"), len(wrong))
+
+
+# ---------------------------------------------------------------------------------------------
 # Hashes and users
 # ---------------------------------------------------------------------------------------------
 
@@ -464,11 +601,11 @@ class Login(Case):
 
     def test_ranks(self):
         """Before a login nothing is served; after it what its rank allows.  The answers are 001's."""
-        every = (CLOCK, MONITOR, frame(b"\x0A\x01\x00\x01"), frame(b"\x15\x00\x00"), frame(b"\x17\x00\x00"), frame(b"\x1A\x01"))
+        every = (CLOCK, MONITOR, frame(b"\x0A\x01\x00\x01"), pulse(1, 1), frame(b"\x15\x00\x00"), frame(b"\x17\x00\x00"), frame(b"\x1A\x01"))
         set_clock = frame(b"\x07" + field(1000000, 8))
         with self.start() as host, Client(host.port) as anna, Client(host.port) as olav:
             box = Box()
-            anna.send(b"".join(every) + set_clock + b"\x06\x55")
+            anna.send(b"".join(every) + set_clock + HOW_MANY + b"\x06\x55")
             self.assertEqual(self.answer(anna, login(b"anna", b"salmon"))[0], USER)
             self.assertEqual(anna.got[:7], USER)                    # nothing before it: all was refused
             self.monitor_as_model(anna, box)
@@ -483,7 +620,8 @@ class Login(Case):
             box.relays[3].state = 1
             self.monitor_as_model(anna, box)
             host.quit()
-        self.assertEqual(host.count(r"refused \(9\)"), 8)
+        self.assertEqual(host.count(r"refused \(9\)"), 9)
+        self.assertEqual(host.count(r"refused \(8\)"), 1)
         self.assertTrue(host.find("anna logged in, user"))
         self.assertTrue(host.find("olav logged in, administrator"))
 

@@ -3,10 +3,12 @@
 
     python3 tests/test_model.py
 
-Expected values are those of 01-scope.md, REPLAY.md and 001; the sentence stands with each check.
+Expected values are those of 01-scope.md, REPLAY.md and 001; the sentence stands with each check.  Those of
+request M-100 of 02 are worked out by hand from its text, and the reason stands with each.
 """
 
 import os
+import random
 import sys
 import subprocess
 import unittest
@@ -14,6 +16,7 @@ import unittest
 import hold
 import traces
 from model import Box, CRC_TABLE, INPUT_IDS, RELAY_IDS, TOP32, TOP64, crc16, field
+from mutants import MUTANTS
 
 HERE = os.path.dirname(os.path.abspath(__file__))
 
@@ -166,7 +169,7 @@ class ReplayPage(unittest.TestCase):
         ("open 0 2", "1"),
         ("bytes 0 4096 010004FFFF0A0A0505", "1 9 0 -"),
         ("state", "C 0 I 0,0,0 0,0,0 0,0,0 0,0,0 0,0,0 0,0,0 0,0,0 0,0,0 R 1,0 0,0 1,0 0,0 0,0 0,0 0,0 0,0 "
-                  "N 1,2,1,1,0 0,0,0,0,0 0,0,0,0,0 0,0,0,0,0"),
+                  "N 1,2,1,1,0 0,0,0,0,0 0,0,0,0,0 0,0,0,0,0 P 0"),
         ("bytes 0 4095 06", "4 0 0 -"),
         ("bytes 0 4096 0601", "2 1 0 -"),
         ("pass 7", "1"),
@@ -213,20 +216,23 @@ class ReplayPage(unittest.TestCase):
         self.assertEqual(box.line("power"), "1")
         self.assertEqual(box.connections[0].open, 0, "a fresh box")
 
+    def connection_1(self, box):
+        return box.state().split(" N ")[1].split(" ")[1]
+
     def test_got(self):
         """'`got` is how many bytes of a half-read message have been taken (0 to 5 + N - 1).'"""
         box = Box()
         box.line("open 1 0")
         for piece, got in (("01", 1), ("00", 2), ("02FF", 4), ("FF", 5), ("06", 6), ("0101", 0)):
             box.line(f"bytes 1 4096 {piece}")
-            self.assertEqual(box.state().split(" ")[-3], f"1,0,1,0,{got}")
+            self.assertEqual(self.connection_1(box), f"1,0,1,0,{got}")
         box.line("bytes 1 4096 01FFFF0000" + "06" * 65534)
-        self.assertEqual(box.state().split(" ")[-3], f"1,0,1,0,{5 + 65535 - 1}")
+        self.assertEqual(self.connection_1(box), f"1,0,1,0,{5 + 65535 - 1}")
         self.assertEqual(box.line("bytes 1 4096 0606"), "6 1 0 -")
-        self.assertEqual(box.state().split(" ")[-3], "1,0,1,0,0")
+        self.assertEqual(self.connection_1(box), "1,0,1,0,0")
         box.line("bytes 1 4096 0100")
         box.line("close 1")
-        self.assertEqual(box.state().split(" ")[-3], "0,0,0,0,0")
+        self.assertEqual(self.connection_1(box), "0,0,0,0,0")
 
 
 class Published(Case):
@@ -278,7 +284,7 @@ class BoxAndEvents(Case):
 
     def test_power_up(self):
         zeros = " ".join(["0,0,0"] * 8), " ".join(["0,0"] * 8), " ".join(["0,0,0,0,0"] * 4)
-        self.assertEqual(Box().state(), "C 0 I %s R %s N %s" % zeros)
+        self.assertEqual(Box().state(), "C 0 I %s R %s N %s P 0" % zeros)
 
     def test_alarm_state(self):
         """'Alarm State is 1 when the switch is set and the input is on.'"""
@@ -542,9 +548,9 @@ class Messages(Case):
             self.assertEqual((self.count(3), self.box.inputs[2].usage, self.box.relays[2].usage), left)
 
     def test_bad_commands(self):
-        """'Actions 4, 6, 7: 11', before the length; '4 bytes in all'; then the channel."""
-        for content in ("0A04", "0A06", "0A07", "0A00", "0A0B", "0AFF", "0A040001", "0A06000100000001", "0A07FFFF00000001",
-                        "0A010000", "0A010009", "0A010101", "0A01FFFF"):
+        """'Actions 4, 6, 7: 11', of which M-100 leaves 4, before the length; '4 bytes in all'; then the channel."""
+        for content in ("0A04", "0A00", "0A0B", "0AFF", "0A040001", "0A04000100000001", "0A010000", "0A010009", "0A010101",
+                        "0A01FFFF"):
             self.assertEqual(self.answer(content), 11, content)
         for content in ("0A", "0A01", "0A0100", "0A01000100", "0A010000FF", "0A0AFF", "0A0A00FF00FF"):
             self.assertEqual(self.answer(content), 10, content)
@@ -623,6 +629,421 @@ class Messages(Case):
         self.assertEqual(self.content("1A03"), (1, "1B030010" + ids))
         for content in ("1A00", "1A04", "1A81", "1AFF"):
             self.assertEqual(self.answer(content), 11)
+
+
+class Pulses(Case):
+    """02, M-100.  Layouts: 001, 'Command Message'."""
+
+    def pulse(self, channel, duration, c=0):
+        """Action 6."""
+        return self.answer(f"0A06{channel:04X}{duration:08X}", c)
+
+    def block(self, mask, states, duration, c=0):
+        """Action 7."""
+        return self.answer(f"0A07{mask:02X}{states:02X}{duration:08X}", c)
+
+    def fill(self):
+        """31 pulses of relay 1, of one ms each."""
+        self.assertEqual([self.pulse(1, 1) for _ in range(31)], [1] * 31)
+
+    def usages(self, *channels):
+        return [self.box.relays[k - 1].usage for k in channels]
+
+    def collected(self):
+        self.box.collect(0, 4096)
+
+    def queue(self):
+        return self.box.state().split(" P ")[1]
+
+    # -- one pulse ---------------------------------------------------------------------------------
+
+    def test_five_ms_are_five_of_usage(self):
+        """In the fifth ms usage grows while the relay is still closed; only then does the pulse end."""
+        self.assertEqual(self.content("0A06000100000005"), (1, ""))
+        self.assertEqual((self.relays(), self.due(), self.usages(1)), ("00000001", 1, [0]))
+        self.collected()
+        self.box.pass_(4)
+        self.assertEqual((self.relays(), self.due(), self.usages(1)), ("00000001", 0, [4]))
+        self.box.pass_(1)
+        self.assertEqual((self.relays(), self.due(), self.usages(1)), ("00000000", 1, [5]))
+        self.box.pass_(10)
+        self.assertEqual((self.relays(), self.usages(1)), ("00000000", [5]))
+
+    def test_duration_is_big_endian_and_four_bytes_wide(self):
+        for duration in (0x100, 0x01000000, 0x80000000, TOP32):
+            self.assertEqual(self.pulse(1, duration), 1)
+            self.box.pass_(duration - 1)
+            self.assertEqual(self.relays(), "00000001")
+            self.box.pass_(1)
+            self.assertEqual(self.relays(), "00000000")
+        self.assertEqual(self.usages(1), [0x100 + 0x01000000 + 0x80000000 + TOP32])
+
+    def test_lowest_bit_is_channel_1(self):
+        """Mask 10000001: relay 8 closes, relay 1 opens; of the states no other bit counts."""
+        self.answer("0A0A0302")
+        self.assertEqual(self.relays(), "00000010")
+        self.answer("0A010001")
+        self.assertEqual(self.block(0b10000001, 0b11111110, 3), 1)
+        self.assertEqual(self.relays(), "10000010")
+        self.box.pass_(3)
+        self.assertEqual(self.relays(), "00000011")
+
+    def test_pulse_of_channel_8(self):
+        self.assertEqual(self.pulse(8, 1), 1)
+        self.assertEqual(self.relays(), "10000000")
+
+    def test_a_closed_relay_pulsed_stays_closed(self):
+        """Neither its beginning nor its end changes anything, so neither makes Monitor due."""
+        self.answer("0A010001")
+        self.collected()
+        self.pulse(1, 2)
+        self.assertEqual((self.relays(), self.due()), ("00000001", 0))
+        self.box.pass_(2)
+        self.assertEqual((self.relays(), self.due(), self.queue()), ("00000001", 0, "0"))
+
+    def test_d_0(self):
+        self.pulse(1, 1)
+        self.pulse(2, 1)
+        before = self.box.state()
+        self.assertEqual(self.box.pass_(0), 1)
+        self.assertEqual(self.box.state(), before)
+
+    # -- one behind the other ----------------------------------------------------------------------
+
+    def test_back_to_back(self):
+        """Relay 1 for 2 ms, then relay 2 for 3: the second begins in the ms in which the first ends, and its usage
+        grows from the next ms on."""
+        self.pulse(1, 2)
+        self.pulse(2, 3)
+        for d, relays, usages in ((0, "00000001", [0, 0]), (1, "00000001", [1, 0]), (1, "00000010", [2, 0]),
+                                  (2, "00000010", [2, 2]), (1, "00000000", [2, 3]), (9, "00000000", [2, 3])):
+            self.box.pass_(d)
+            self.assertEqual((self.relays(), self.usages(1, 2)), (relays, usages))
+
+    def test_back_to_back_in_one_pass(self):
+        for d, relays, usages in ((4, "00000010", [2, 2]), (5, "00000000", [2, 3]), (TOP32, "00000000", [2, 3])):
+            self.power()
+            self.pulse(1, 2)
+            self.pulse(2, 3)
+            self.box.pass_(d)
+            self.assertEqual((self.relays(), self.usages(1, 2), self.box.clock), (relays, usages, d))
+
+    def test_end_and_beginning_that_cancel_still_mark(self):
+        """Relay 1 opens and closes within the ms: two changes, nothing to be seen but the mark."""
+        self.pulse(1, 2)
+        self.pulse(1, 2)
+        self.collected()
+        self.box.pass_(1)
+        self.assertEqual((self.relays(), self.due()), ("00000001", 0))
+        self.box.pass_(1)
+        self.assertEqual((self.relays(), self.due(), self.usages(1)), ("00000001", 1, [2]))
+        self.box.pass_(2)
+        self.assertEqual((self.relays(), self.usages(1)), ("00000000", [4]))
+
+    def test_marks_within_a_longer_pass(self):
+        """The same in one pass of 3 ms, which begins and ends with relay 1 closed."""
+        self.pulse(1, 2)
+        self.pulse(1, 2)
+        self.collected()
+        self.box.pass_(3)
+        self.assertEqual((self.relays(), self.due()), ("00000001", 1))
+
+    def test_whom_a_pulse_marks(self):
+        """As every change: open, rank 1 or 2, Monitor on."""
+        for c, rank in ((1, 1), (2, 0), (3, 2)):
+            self.box.open(c, rank)
+        self.pulse(1, 5)
+        self.answer("050004", 3)
+        for c in range(4):
+            self.box.collect(c, 4096)
+        self.box.pass_(5)
+        self.assertEqual([self.due(c) for c in range(4)], [1, 1, 0, 0])
+
+    def test_remembered_at_the_beginning(self):
+        """Relay 1 is open when its pulse is accepted and closed when it begins: closed it is after its end."""
+        self.pulse(2, 3)
+        self.block(0b00000001, 0, 2)
+        self.answer("0A010001")
+        self.box.pass_(3)
+        self.assertEqual((self.relays(), self.queue()), ("00000000", "1 1,0,2 was 1"))
+        self.box.pass_(2)
+        self.assertEqual(self.relays(), "00000001")
+
+    def test_first_come_first_run(self):
+        for k in (3, 1, 2):
+            self.pulse(k, 10)
+        seen = []
+        for _ in range(3):
+            seen.append(self.relays())
+            self.box.pass_(10)
+        self.assertEqual(seen, ["00000100", "00000001", "00000010"])
+
+    def test_many_end_in_one_pass(self):
+        """31 pulses by turns of relays 1 and 2, of 1 to 31 ms, 496 ms in all: relay 1 has the odd durations, 256 ms."""
+        for n in range(1, 32):
+            self.assertEqual(self.pulse(1 if n % 2 else 2, n), 1)
+        self.box.pass_(495)
+        self.assertEqual((self.relays(), self.usages(1, 2), self.queue()), ("00000001", [255, 240], "1 1,1,1 was 0"))
+        self.box.pass_(1)
+        self.assertEqual((self.relays(), self.usages(1, 2), self.queue()), ("00000000", [256, 240], "0"))
+
+    # -- meanwhile ---------------------------------------------------------------------------------
+
+    def test_what_was_done_meanwhile_is_undone(self):
+        """Relay 1 is open and pulsed open, closed by a command, a block or a write entry after 2 ms, and open again at the
+        end after 5: 3 ms of usage.  The end is then a change."""
+        for closing in ("0A010001", "0A030001", "0A0A0101", "17000100000000000101FF00020101"):
+            self.power()
+            self.block(0b00000001, 0, 5)
+            self.box.pass_(2)
+            self.assertEqual(self.answer(closing), 1)
+            self.assertEqual((self.relays(), self.queue()), ("00000001", "1 1,0,3 was 0"))
+            self.collected()
+            self.box.pass_(2)
+            self.assertEqual((self.relays(), self.due()), ("00000001", 0))
+            self.box.pass_(1)
+            self.assertEqual((self.relays(), self.due(), self.usages(1)), ("00000000", 1, [3]))
+
+    def test_a_pulse_opened_by_a_command_runs_on(self):
+        """Its end finds relay 1 open already, which is no change; it comes after 5 ms, not before."""
+        self.pulse(1, 5)
+        self.pulse(2, 1)
+        self.answer("0A020001")
+        self.collected()
+        self.box.pass_(4)
+        self.assertEqual((self.relays(), self.due(), self.usages(1)), ("00000000", 0, [0]))
+        self.box.pass_(1)
+        self.assertEqual((self.relays(), self.due()), ("00000010", 1))
+
+    def test_an_unmasked_relay_is_not_touched(self):
+        """Relays 2 and 3 are changed meanwhile and stay so, though relay 2's bit stands in the states."""
+        self.answer("0A010003")
+        self.block(0b00000001, 0b00000011, 5)
+        self.assertEqual(self.relays(), "00000101")
+        self.answer("0A0A0602")
+        self.assertEqual(self.relays(), "00000011")
+        self.box.pass_(5)
+        self.assertEqual(self.relays(), "00000010")
+
+    def test_a_clock_setting_changes_nothing_of_it(self):
+        """Back, forth and to the top, where the clock stands still: the pulse lasts its 5 ms."""
+        for clock in (0, 1000000, TOP64):
+            self.power()
+            self.box.pass_(100)
+            self.pulse(1, 5)
+            self.box.pass_(2)
+            self.answer(f"07{clock:016X}")
+            self.box.pass_(2)
+            self.assertEqual((self.relays(), self.queue()), ("00000001", "1 1,1,1 was 0"))
+            self.box.pass_(1)
+            self.assertEqual((self.relays(), self.usages(1)), ("00000000", [5]))
+
+    def test_closing_the_connection_changes_nothing_of_it(self):
+        self.box.open(1, 1)
+        self.pulse(1, 5, 1)
+        self.pulse(2, 5, 1)
+        self.box.close(1)
+        self.assertEqual(self.queue(), "2 1,1,5 2,2,5 was 0")
+        self.box.pass_(5)
+        self.assertEqual(self.relays(), "00000010")
+        self.box.pass_(5)
+        self.assertEqual((self.relays(), self.usages(1, 2)), ("00000000", [5, 5]))
+
+    def test_numbers_at_their_top(self):
+        """Clock and usage stop at their largest number; the pulse ends all the same."""
+        self.answer("07FFFFFFFFFFFFFFFE")
+        self.box.relays[0].usage = TOP64 - 2
+        self.pulse(1, 3)
+        self.pulse(2, 4)
+        for d, relays, usages in ((2, "00000001", [TOP64, 0]), (1, "00000010", [TOP64, 0]), (3, "00000010", [TOP64, 3]),
+                                  (1, "00000000", [TOP64, 4])):
+            self.box.pass_(d)
+            self.assertEqual((self.relays(), self.usages(1, 2), self.box.clock), (relays, usages, TOP64))
+
+    # -- the queue ---------------------------------------------------------------------------------
+
+    def test_31_accepted_the_32nd_not(self):
+        """The running one is one of the 31.  Each end makes one place free, and one only."""
+        self.fill()
+        before = self.box.state()
+        self.assertEqual((self.pulse(1, 1), self.block(0, 0, 1)), (14, 14))
+        self.assertEqual(self.box.state(), before)
+        self.box.pass_(1)
+        self.assertEqual([self.pulse(1, 1) for _ in range(2)], [1, 14])
+        self.box.pass_(3)
+        self.assertEqual([self.pulse(1, 1) for _ in range(4)], [1, 1, 1, 14])
+
+    def test_places_are_used_again_and_again(self):
+        """100 pulses one after the other, and a full queue all through: each adds its ms of usage."""
+        self.fill()
+        for _ in range(100):
+            self.box.pass_(1)
+            self.assertEqual((self.pulse(1, 1), self.pulse(1, 1)), (1, 14))
+        self.box.pass_(31)
+        self.assertEqual((self.usages(1), self.queue()), ([131], "0"))
+
+    def test_mask_0_holds_the_queue_for_its_time(self):
+        """It changes nothing and marks nobody, but has its place and its 4 ms."""
+        self.assertEqual(self.content("0A0700FF00000004"), (1, ""))
+        self.pulse(1, 2)
+        self.assertEqual((self.relays(), self.due(), self.queue()), ("00000000", 0, "2 0,0,4 1,1,2 was 0"))
+        self.box.pass_(3)
+        self.assertEqual((self.relays(), self.due()), ("00000000", 0))
+        self.box.pass_(1)
+        self.assertEqual((self.relays(), self.due(), self.queue()), ("00000001", 1, "1 1,1,2 was 0"))
+
+    def test_pulses_of_mask_0_fill_it_too(self):
+        self.assertEqual([self.block(0, 0, 1) for _ in range(32)], [1] * 31 + [14])
+
+    # -- refusals ----------------------------------------------------------------------------------
+
+    def test_order_of_refusals(self):
+        """11 for the action, 10, 11 for the channel, 11 for duration 0, then 14: with room in the queue and without."""
+        for fill, right in ((False, 1), (True, 14)):
+            if fill:
+                self.power()
+                self.fill()
+            for content, answer in (("0A04", 11), ("0A0400010000000100", 11), ("0A06", 10), ("0A07", 10), ("0A060001", 10),
+                                    ("0A06000900000001", 11), ("0A06000000000001", 11), ("0A06010100000001", 11),
+                                    ("0A06FFFF00000001", 11), ("0A06000100000000", 11), ("0A06000900000000", 11),
+                                    ("0A07FFFF00000000", 11), ("0A07000000000000", 11), ("0A060001000000", 10),
+                                    ("0A060009000000", 10), ("0A0600010000000000", 10), ("0A0600090000000100", 10),
+                                    ("0A07FFFF000000", 10), ("0A07FFFF0000000100", 10), ("0A0700FF00FF00000001", 10)):
+                before = self.box.state()
+                self.assertEqual(self.content(content), (answer, ""), content)
+                self.assertEqual(self.box.state(), before)
+            self.assertEqual((self.pulse(1, 1), self.block(0xFF, 0, 1)), (right, right))
+
+    def test_rank(self):
+        """'Rank 1 is needed for all', judged before all of these."""
+        self.box.open(1, 0)
+        self.box.open(2, 1)
+        for content in ("0A06000100000001", "0A06000900000000", "0A06", "0A07FFFF00000001"):
+            self.assertEqual(self.answer(content, 1), 9)
+        self.assertEqual(self.pulse(1, 1, 2), 1)
+
+    # -- the lent row ------------------------------------------------------------------------------
+
+    def test_rows_for_time(self):
+        """Under 31 records: 4, and no ms has passed, d = 0 included."""
+        self.pulse(1, 5)
+        before = self.box.state()
+        for row in (0, 1, 30):
+            self.assertEqual((self.box.pass_(1, row), self.box.pass_(0, row), self.box.pass_by_ms(1, row)), (4, 4, 4))
+        self.assertEqual(self.box.state(), before)
+        for row in (31, 32, 64):
+            self.assertEqual(self.box.pass_(1, row), 1)
+        self.assertEqual(self.usages(1), [3])
+
+    def test_rows_for_bytes(self):
+        """3 before 4; at 4 no byte is taken, whatever the piece holds."""
+        message = bytes.fromhex("010008FFFF0A06000100000005")
+        before = self.box.state()
+        for row in (0, 1, 30):
+            for piece in (message, message[:3], b"\x06", b"\x00", b""):
+                self.assertEqual(self.box.bytes_(0, 4096, piece, row), (4, 0, b""))
+                self.assertEqual(self.box.bytes_(0, 4095, piece, row), (4, 0, b""))
+                self.assertEqual(self.box.bytes_(1, 4096, piece, row), (3, 0, b""))
+                self.assertEqual(self.box.bytes_(4, 0, piece, row), (3, 0, b""))
+        self.assertEqual(self.box.state(), before)
+        for row in (31, 32, 64):
+            self.assertEqual(self.box.bytes_(0, 4095, message, row), (4, 0, b""))
+            self.assertEqual(self.box.bytes_(0, 4096, message, row), (1, 13, b""))
+        self.assertEqual(self.queue(), "3 1,1,5 1,1,5 1,1,5 was 0")
+
+    def test_rows_in_replay_lines(self):
+        for line, printed in (("pass 1 30", "4"), ("pass 1 31", "1"), ("pass 1 64", "1"), ("pass 1 65", "?"),
+                              ("bytes 0 4096 06 30", "4 0 0 -"), ("bytes 1 4096 06 30", "3 0 0 -"),
+                              ("bytes 0 4096 06 31", "2 1 0 -"), ("bytes 0 4096 06 32", "2 1 0 -"),
+                              ("bytes 0 4096 06 64", "2 1 0 -"), ("bytes 0 4096 06 65", "?"), ("bytes 0 4096 - 0", "4 0 0 -")):
+            self.assertEqual(self.box.line(line), printed, line)
+        self.assertEqual(self.box.clock, 2)
+
+    def test_state_line(self):
+        """Relay 2 is closed.  Running: mask 3, states 1 of 11111101, 4 of 5 ms left; before it relay 2 of its two was closed.
+        Waiting: mask 128, states 0, 7 ms."""
+        self.answer("0A010002")
+        self.assertEqual(self.queue(), "0")
+        self.block(3, 0b11111101, 5)
+        self.box.pass_(1)
+        self.block(128, 0, 7)
+        self.assertEqual(self.queue(), "2 3,1,4 128,0,7 was 2")
+        self.box.power()
+        self.assertEqual(self.queue(), "0")
+
+
+class TimeByTheMs(unittest.TestCase):
+    """M-100: d ms are d times one.  The model takes several in one step; here it is held to one at a time."""
+
+    RUNS = 150
+
+    class ByMs(Box):
+        def pass_(self, d, row=31):
+            return self.pass_by_ms(d, row)
+
+    CONTENTS = ("0A01000{k}", "0A02000{k}", "0A03000{k}", "0A09000{k}", "0A0A{a:02X}{b:02X}", "07{top:016X}",
+                "17000100000000000{id:05X}000201{bit:02X}")
+
+    def lines(self, rng):
+        """Pulses and passes for the most part, so that queues of many lengths and many ends in one pass occur; often
+        with nothing due before, so that a mark is seen."""
+        for _ in range(40):
+            kind = rng.randrange(14)
+            if kind < 5:
+                mask = rng.choice((0, 1, 3, 255, rng.randrange(256)))
+                yield self.message(f"0A07{mask:02X}{rng.randrange(256):02X}{rng.choice((1, 1, 2, 3, rng.randrange(1, 9))):08X}", rng)
+            elif kind < 8:
+                yield f"pass {rng.choice((0, 1, 2, 3, rng.randrange(30)))}"
+            elif kind < 9:
+                yield self.message(rng.choice(self.CONTENTS).format(
+                    k=rng.randrange(1, 9), a=rng.randrange(256), b=rng.randrange(256), top=TOP64 - rng.randrange(9),
+                    id=0x0101FF + 0x100 * rng.randrange(8), bit=rng.randrange(2)), rng)
+            elif kind < 10:
+                yield f"level {rng.randrange(1, 9)} {rng.randrange(2)}"
+            else:
+                yield from ("collect 0 4096", "collect 1 4096")
+
+    def message(self, content, rng):
+        return f"bytes {rng.randrange(2)} 4096 {traces.framed(bytes.fromhex(content)).hex().upper()}"
+
+    def run_of(self, seed, box_class):
+        """What the box prints for a run, and its state after each line."""
+        rng = random.Random(seed)
+        box = box_class()
+        for line in ("open 0 2", "open 1 1", "open 2 0", "open 3 2", "bytes 3 4096 010003FFFF050004"):
+            box.line(line)
+        for device in box.inputs + box.relays:
+            device.usage = rng.choice((0, TOP64 - rng.randrange(20)))
+        return [(line, box.line(line), box.state()) for line in self.lines(rng)]
+
+    def differing(self, box_class, runs):
+        """The seeds whose runs differ from those by the ms."""
+        return [seed for seed in range(runs) if self.run_of(seed, box_class) != self.run_of(seed, self.ByMs)]
+
+    def test_steps_are_as_single_ms(self):
+        self.assertEqual(self.differing(Box, self.RUNS), [])
+
+    def test_steps_that_are_not_are_found(self):
+        for name in ("a pass ends one pulse at most", "only the last pulse of a long pass ends",
+                     "all ends and beginnings of a pass as one change", "usage of a whole pass by the states before it",
+                     "the rest of a pass after an end is lost to the next pulse"):
+            self.assertGreater(len(self.differing(MUTANTS[name], 20)), 5, name)
+
+    def test_runs_end_many_pulses_in_one_pass(self):
+        """None, one, and many: otherwise the runs would show nothing."""
+        ends = {0: 0, 1: 0, 2: 0}
+
+        class Counting(Box):
+            def pass_(self, d, row=31):
+                stood = len(self.queue)
+                answer = super().pass_(d, row)
+                if stood:
+                    ends[min(stood - len(self.queue), 2)] += 1
+                return answer
+
+        for seed in range(self.RUNS):
+            self.run_of(seed, Counting)
+        self.assertGreater(min(ends.values()), 100, ends)
 
 
 class Tools(unittest.TestCase):

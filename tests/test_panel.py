@@ -1,5 +1,5 @@
 #!/usr/bin/env python3
-"""The panel over HTTP, against the host: what it shows, its buttons, who may press them, and what it says when the box is gone.
+"""The panel over HTTP, against the host: what it shows, its buttons, its pulses, who may press them, and what it says when the box is gone.
 
     python3 tests/test_panel.py
 
@@ -14,11 +14,12 @@ import socket
 import subprocess
 import sys
 import tempfile
+import threading
 import time
 import unittest
 
-from boxd import Boxd, Client, MONITOR, PATIENCE, PROGRAM, Program, ROOT, frame
-from model import field
+from boxd import Boxd, Client, MONITOR, PATIENCE, PROGRAM, Program, ROOT, frame, pulse
+from model import Box, RELAY_IDS, field, number
 
 sys.path.insert(0, os.path.join(ROOT, "host"))
 import adduser                                                                                      # noqa: E402
@@ -54,10 +55,40 @@ class Panel(Program):
             time.sleep(0.02)
         raise AssertionError(f"never so: {state}")
 
-    def press(self, relay, closed, **headers):
+    def post(self, path, body, headers):
         words = {"Origin": f"http://127.0.0.1:{self.port}", "Content_Type": "application/json", **headers}
-        body = json.dumps({"relay": relay, "closed": closed})
-        return self.ask("POST", "/relay", body, **{name: value for name, value in words.items() if value is not None})
+        return self.ask("POST", path, body, **{name: value for name, value in words.items() if value is not None})
+
+    def press(self, relay, closed, **headers):
+        return self.post("/relay", json.dumps({"relay": relay, "closed": closed}), headers)
+
+    def pulse(self, relay, ms, **headers):
+        return self.post("/pulse", json.dumps({"relay": relay, "ms": ms}), headers)
+
+
+class Plain:
+    """A box whose host answers nothing of its own: the model on a socket, for one client."""
+
+    def __init__(self):
+        self.listener = socket.create_server(("127.0.0.1", 0))
+        self.port = self.listener.getsockname()[1]
+        self.box = Box()
+        self.box.open(0, 2)
+        self.thread = threading.Thread(target=self.serve, daemon=True)
+        self.thread.start()
+
+    def serve(self):
+        connection = self.listener.accept()[0]
+        with connection:
+            piece = connection.recv(65536)
+            while piece:
+                _, taken, reply = self.box.bytes_(0, 4096, piece)
+                connection.sendall(reply)
+                piece = piece[taken:] or connection.recv(65536)
+
+    def close(self):
+        self.thread.join(PATIENCE)
+        self.listener.close()
 
 
 def answers(state):
@@ -119,6 +150,69 @@ class Case(unittest.TestCase):
                 self.assertEqual(status, 400, body)
             host.quit()
 
+    def test_pulses(self):
+        """A pulse button pulses its relay for so long, and says whether the pulse has begun or waits; how many stand is shown."""
+        with Boxd("--quiet") as host, Panel(host.port) as panel, Client(host.port) as client:
+            self.assertEqual(panel.wait_until(answers)["standing"], 0)
+            self.assertEqual(panel.pulse(3, 1500)[::2], (200, "The pulse of relay 3, 1500 ms, has begun.\n"))
+            state = panel.state()
+            self.assertEqual((state["standing"], [r["closed"] for r in state["relays"]]), (1, [False, False, True] + [False] * 5))
+            self.assertEqual(panel.pulse(5, 20)[::2], (200, "The pulse of relay 5, 20 ms, waits behind 1 other.\n"))
+            self.assertEqual(panel.pulse(5, 30)[::2], (200, "The pulse of relay 5, 30 ms, waits behind 2 others.\n"))
+            self.assertEqual(panel.state()["standing"], 3)
+            state = panel.wait_until(lambda s: s["standing"] == 0 and not s["relays"][2]["closed"])
+            self.assertEqual([r["closed"] for r in state["relays"]], [False] * 8)
+            self.assertEqual([self.usage(client, k) for k in (3, 5)], [1500, 50])
+            host.wait_for("the pulse of relay 5, 30 ms, has ended; relay 5 is open now")
+            host.quit()
+
+    def usage(self, client, k):
+        return number(client.ask(frame(b"\x15\x00\x01" + field(RELAY_IDS[k - 1], 8)), 22)[14:22])
+
+    def test_full_queue(self):
+        """Where 31 stand, the panel says that the box takes no more.  The longest pulse is taken."""
+        with Boxd("--quiet") as host, Panel(host.port) as panel, Client(host.port) as client:
+            panel.wait_until(answers)
+            self.assertEqual(panel.pulse(6, 4294967295)[0], 200)
+            client.send(pulse(1, 5) * 29)
+            client.clock()
+            self.assertEqual(panel.pulse(2, 5)[::2], (200, "The pulse of relay 2, 5 ms, waits behind 30 others.\n"))
+            for _ in range(2):
+                status, _, said = panel.pulse(7, 5)
+                self.assertEqual(status, 409)
+                self.assertIn("31 pulses stand in the queue: the box takes no more", said)
+            self.assertEqual(panel.state()["standing"], 31)
+            host.wait_for(r"refused \(14\): 31 pulses stand in the queue")
+            host.quit()
+        self.assertEqual(host.count(r"refused \(14\)"), 2)
+        self.assertEqual(host.count("relay 7"), 0)
+
+    def test_pulses_that_are_none(self):
+        """A duration or a relay that the box would not take is not even sent."""
+        with Boxd("--quiet") as host, Panel(host.port) as panel:
+            panel.wait_until(answers)
+            for body in ("", "{}", "[]", '{"relay":1}', '{"ms":5}', '{"relay":1,"ms":0}', '{"relay":1,"ms":-1}', '{"relay":1,"ms":4294967296}',
+                         '{"relay":1,"ms":1.5}', '{"relay":1,"ms":"5"}', '{"relay":1,"ms":true}', '{"relay":1,"ms":null}', '{"relay":0,"ms":5}',
+                         '{"relay":9,"ms":5}', '{"relay":true,"ms":5}', "\xff"):
+                self.assertEqual(panel.post("/pulse", body.encode("latin-1"), {})[0], 400, body)
+            self.assertEqual(panel.post("/pulses", '{"relay":1,"ms":5}', {})[0], 404)
+            self.assertEqual(panel.pulse(8, 1)[0], 200)
+            host.quit()
+        self.assertEqual(host.count("asked for a pulse"), 1)
+        self.assertEqual(host.count("sent a message of type 10"), 0)
+
+    def test_box_that_does_not_tell(self):
+        """Where the box's host does not say how many stand, the panel shows none, and does not claim that a pulse was taken."""
+        plain = Plain()
+        with Panel(plain.port) as panel:
+            self.assertIsNone(panel.wait_until(answers)["standing"])
+            status, _, said = panel.pulse(4, 60000)
+            self.assertEqual(status, 502)
+            self.assertIn("did not tell whether it took the pulse of relay 4", said)
+            panel.wait_until(lambda s: s["relays"][3]["closed"])
+            self.assertEqual(panel.press(1, True)[0], 200)
+        plain.close()
+
     def test_other_sites_press_nothing(self):
         """A request under another name, or a command from another page, is refused."""
         with Boxd("--quiet") as host, Panel(host.port) as panel:
@@ -129,6 +223,7 @@ class Case(unittest.TestCase):
                             {"Host": f"evil.example:{panel.port}", "Origin": f"http://evil.example:{panel.port}"},
                             {"Content_Type": "text/plain"}, {"Content_Type": "application/x-www-form-urlencoded"}, {"Content_Type": None}):
                 self.assertEqual(panel.press(4, True, **headers)[0], 403, headers)
+                self.assertEqual(panel.pulse(4, 5, **headers)[0], 403, headers)
             for path in ("/", "/state", "/events"):
                 self.assertEqual(panel.ask("GET", path, Host="evil.example")[0], 403)
             self.assertEqual(panel.press(4, True, Content_Length="100000")[0], 413)
@@ -174,6 +269,9 @@ class Case(unittest.TestCase):
             status, _, said = panel.press(1, True)
             self.assertEqual(status, 502)
             self.assertIn("The box did not close relay 1", said)
+            status, _, said = panel.pulse(1, 5)
+            self.assertEqual(status, 502)
+            self.assertIn("did not tell whether it took the pulse of relay 1", said)
             with Boxd("--quiet", port=host.port) as again:
                 back = panel.wait_until(answers)
                 self.assertGreaterEqual(back["since"], gone["since"])

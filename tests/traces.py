@@ -2,8 +2,8 @@
 """Traces for the box: lists of replay lines made from a seed.
 
 The maker plays each line to a model of its own as it goes.  From it it learns how many bytes were
-taken, so that untaken bytes can be offered again first, and which counts lie near a setpoint.  The
-model's printed lines come with the trace.
+taken, so that untaken bytes can be offered again first, which counts lie near a setpoint, and when
+the next pulse ends.  The model's printed lines come with the trace.
 
     python3 tests/traces.py SEED EVENTS      prints one trace
 """
@@ -12,7 +12,7 @@ import random
 import sys
 from collections import namedtuple
 
-from model import Box, INPUT_IDS, RELAY_IDS, TOP32, TOP64, crc16, field, number
+from model import Box, INPUT_IDS, PULSES, RELAY_IDS, TOP32, TOP64, crc16, field, number
 
 Trace = namedtuple("Trace", "lines printed events")
 
@@ -53,12 +53,14 @@ BAD_LINES = (
     "", " ", "?", "-", "0", "hello", "POWER", "power 1", "power 0 0 0", "power on", "Open 0 2", "open", "open 0",
     "open 0 2 1", "open 256 1", "open 0 256", "open x 1", "open 0 -1", "open 99999999999999999999999 1",
     "close", "close 256", "close 0 0", "close -", "level 1", "level 256 0", "level 1 256", "level 1 1 1",
-    "level one 1", "pass", "pass -1", "pass 4294967296", "pass 18446744073709551616", "pass 1 1", "pass x",
-    "pass 1.5", "collect 0", "collect 0 65537", "collect 256 4096", "collect 0 4096 0", "bytes", "bytes 0",
-    "bytes 0 4096", "bytes 0 4096 0", "bytes 0 4096 060", "bytes 0 4096 0g", "bytes 0 4096 0G", "bytes 0 4096 --",
-    "bytes 0 4096 010003ffff050000", "bytes 0 4096 0x06", "bytes 0 65537 06", "bytes 256 4096 06",
-    "bytes 0 4096 06 06", "bytes 0 -1 06", "state 0", "states", "stat", "State", "read 0",
-    "read 0 4096 06", "byte 0 4096 06",
+    "level one 1", "pass", "pass -1", "pass 4294967296", "pass 18446744073709551616", "pass x", "pass 1.5", "pass 1 ",
+    "pass 1 65", "pass 1 -", "pass 1 -1", "pass 1 x", "pass 1 31 31", "pass 4294967296 31", "collect 0",
+    "collect 0 65537", "collect 256 4096", "collect 0 4096 0", "bytes", "bytes 0", "bytes 0 4096", "bytes 0 4096 0",
+    "bytes 0 4096 060", "bytes 0 4096 0g", "bytes 0 4096 0G", "bytes 0 4096 --", "bytes 0 4096 010003ffff050000",
+    "bytes 0 4096 0x06", "bytes 0 65537 06", "bytes 256 4096 06", "bytes 0 4096 06 ", "bytes 0 4096 06 65",
+    "bytes 0 4096 06 -", "bytes 0 4096 06 0A", "bytes 0 4096 06 31 31", "bytes 0 4096 0 31", "collect 0 4096 31",
+    "level 1 1 31", "bytes 0 -1 06", "state 0", "states", "stat", "State", "read 0", "read 0 4096 06",
+    "byte 0 4096 06",
 )
 
 
@@ -105,6 +107,12 @@ class Maker:
             return 4096
         return self.pick(4097, 5000, 8192, 65535, 65536, self.rng.randrange(4096, 65537))
 
+    def row(self, one_in):
+        """The word for the lent row's length; mostly none, for 31."""
+        if not self.one_in(one_in):
+            return ""
+        return f" {self.pick(0, 1, 16, 29, 30, 30, 30, 31, 31, 32, 32, 33, 62, 63, 64, 64)}"
+
     # -- lines -----------------------------------------------------------------------------------
 
     def say(self, line):
@@ -116,9 +124,10 @@ class Maker:
         return printed
 
     def offer(self, c, piece, cap=None):
-        """Offers a piece; how many of its bytes were taken."""
+        """Offers a piece, into a buffer and with a row of any length if none is given; how many bytes were taken."""
+        row = self.row(12) if cap is None else ""
         cap = self.capacity() if cap is None else cap
-        return int(self.say(f"bytes {c} {cap} {piece.hex().upper() or '-'}").split(" ")[1])
+        return int(self.say(f"bytes {c} {cap} {piece.hex().upper() or '-'}{row}").split(" ")[1])
 
     def send(self, c, content):
         """One right message in one piece."""
@@ -198,10 +207,12 @@ class Maker:
             self.say(f"level {k} {1 - self.box.inputs[k - 1].level}")
 
     def do_pass(self):
-        self.say(f"pass {self.some_ms()}")
+        self.say(f"pass {self.some_ms()}{self.row(6)}")
 
     def some_ms(self):
-        """Mostly small; where a usage runs towards its setpoint, often just to it."""
+        """Mostly small; where a pulse runs, or a usage towards its setpoint, often just to it."""
+        if self.box.queue and not self.one_in(4):
+            return self.ms_to_an_end()
         if self.one_in(3):
             gaps = [device.usage_setpoint - device.usage + self.pick(-1, 0, 1)
                     for device in self.box.inputs + self.box.relays
@@ -211,6 +222,16 @@ class Maker:
                 return self.rng.choice(gaps)
         return self.pick(0, 1, 1, 2, 10, 999, 1000, 65535, 65536, 2147483648, TOP32, self.rng.randrange(100000),
                          self.rng.randrange(TOP32 + 1))
+
+    def ms_to_an_end(self):
+        """Up to the end of the running pulse or of one behind it; sometimes one less or more."""
+        lefts = self.lefts()
+        ends = self.pick(1, 1, 1, 2, self.rng.randrange(len(lefts)) + 1, len(lefts))
+        return min(sum(lefts[:ends]) + self.pick(-1, 0, 0, 0, 1), TOP32)
+
+    def lefts(self):
+        """The ms that each pulse has to run."""
+        return [self.box.left] + [pulse.duration for pulse in self.box.queue[1:]]
 
     def do_collect(self):
         c = self.rng.randrange(4) if self.one_in(6) else self.connection()
@@ -373,7 +394,8 @@ class Maker:
         if kind == 0:
             content = self.full_write(length)
         elif kind == 1:
-            content = self.rng.choice((b"\x05\x00\x00", b"\x05\x00\x03", b"\x0A\x01", b"\x0A\x04", b"\x63", b"\x1A\x01"))
+            content = self.rng.choice((b"\x05\x00\x00", b"\x05\x00\x03", b"\x0A\x01", b"\x0A\x04", b"\x0A\x07", b"\x63",
+                                       b"\x1A\x01"))
             content += bytes(length - len(content))
         elif kind == 2:
             content = b"\x15" + field(self.pick(127, 128), 2) + self.rng.randbytes(length - 3)
@@ -404,19 +426,45 @@ class Maker:
                                 (7, .7), (11, .4), (129, .3), (138, .3), (255, .3), (self.rng.randrange(256), .3)))
         if action == 10:
             return self.block_command()
-        channel = self.rng.randrange(1, 9)
-        if self.one_in(6):
-            channel = self.pick(0, 0, 0, 9, 9, 9, 10, 16, 128, 255, 256, 257, 264, 0x0800, 0x8001, 0xFFFF,
-                                self.rng.randrange(65536))
-        return b"\x0A" + bytes([action]) + field(channel, 2)
+        return b"\x0A" + bytes([action]) + field(self.channel(), 2)
+
+    def channel(self):
+        if not self.one_in(6):
+            return self.rng.randrange(1, 9)
+        return self.pick(0, 0, 0, 9, 9, 9, 10, 16, 128, 255, 256, 257, 264, 0x0800, 0x8001, 0xFFFF, self.rng.randrange(65536))
 
     def block_command(self):
         mask = self.pick(0, 1, 0x06, 0x80, 0xFF, self.rng.randrange(256), self.rng.randrange(256))
-        state = self.pick(0, 0x02, 0x80, 0xFF, self.relay_states(), self.relay_states(), self.rng.randrange(256))
+        now = self.box.relay_states()
+        state = self.pick(0, 0x02, 0x80, 0xFF, now, now, self.rng.randrange(256))
         return b"\x0A\x0A" + bytes([mask, state])
 
-    def relay_states(self):
-        return sum(relay.state << k for k, relay in enumerate(self.box.relays))
+    def pulse_content(self):
+        """A pulse, sometimes with a channel or a duration out of range; seldom in 001's layout for 16 relays."""
+        duration = 0 if self.one_in(12) else self.duration()
+        if self.one_in(3):
+            return b"\x0A\x06" + field(self.channel(), 2) + field(duration, 4)
+        if self.one_in(40):
+            return b"\x0A\x07" + self.rng.randbytes(4) + field(duration, 4)
+        return self.block_pulse(self.pick(0, 1, 0x06, 0x80, 0xFF, self.rng.randrange(256), self.rng.randrange(256)), duration)
+
+    def right_pulse(self, duration):
+        if self.one_in(3):
+            return b"\x0A\x06" + field(self.rng.randrange(1, 9), 2) + field(duration, 4)
+        return self.block_pulse(self.pick(0, 0xFF, self.rng.randrange(256), self.rng.randrange(256)), duration)
+
+    def block_pulse(self, mask, duration):
+        """Often of states that are no change, or that are one for every masked relay."""
+        now = self.box.relay_states()
+        states = self.pick(0, 0xFF, now, now ^ 0xFF, now ^ 0xFF, self.rng.randrange(256), self.rng.randrange(256))
+        return b"\x0A\x07" + bytes([mask, states]) + field(duration, 4)
+
+    def duration(self):
+        """Mostly short, so that a queue also empties."""
+        if not self.one_in(8):
+            return self.pick(1, 1, 1, 2, 3, 5, self.rng.randrange(1, 20), self.rng.randrange(1, 2000))
+        return self.pick(255, 256, 65535, 65536, 0x01000000, 2147483647, 2147483648, TOP32 - 1, TOP32,
+                         self.rng.randrange(1, TOP32 + 1))
 
     def an_id(self):
         chance = self.rng.randrange(100)
@@ -553,7 +601,7 @@ class Maker:
         elif same == 1:
             self.send(c, b"\x0A" + bytes([2 - relay.state]) + field(k + 1, 2))
         elif same == 2:
-            self.send(c, b"\x0A\x0A" + bytes([self.pick(0xFF, self.rng.randrange(256)), self.relay_states()]))
+            self.send(c, b"\x0A\x0A" + bytes([self.pick(0xFF, self.rng.randrange(256)), self.box.relay_states()]))
         elif same == 3:
             self.send(c, b"\x0A\x0A\x00" + bytes([self.rng.randrange(256)]))
         elif same == 4:
@@ -608,10 +656,71 @@ class Maker:
             taken = self.offer(e, self.waiting[e], 4096)
             self.waiting[e] = self.waiting[e][taken:]
 
+    def scene_meanwhile(self, c):
+        """A pulse, something done while it runs, then up to the ms before its end and over it."""
+        self.send(c, self.right_pulse(self.pick(1, 2, 3, 10, self.rng.randrange(1, 2000))))
+        if not self.box.queue:
+            return
+        self.say(f"pass {self.rng.randrange(min(self.box.left, TOP32))}{self.row(6)}")
+        mask, k = self.box.queue[0].mask, self.rng.randrange(8)
+        meanwhile = self.rng.randrange(7)
+        if meanwhile == 0:
+            self.send(c, self.clock_setting())
+        elif meanwhile == 1:
+            self.say(f"close {c}")
+            self.say(f"open {c} {self.pick(1, 2)}")
+        elif meanwhile == 2:
+            self.send(c, b"\x17\x00\x01" + field(RELAY_IDS[k], 8) + b"\x00\x02\x01" + bytes([1 - self.box.relays[k].state]))
+        elif meanwhile == 3:
+            self.send(c, b"\x0A\x03" + field(k + 1, 2))
+        else:
+            self.send(c, b"\x0A\x0A" + bytes([self.pick(mask, mask ^ 0xFF, 0xFF), self.box.relay_states() ^ 0xFF]))
+        if self.one_in(2):
+            self.say(f"collect {c} 4096")
+        self.over_the_end(c, self.box.left)
+
+    def scene_cancelling(self, c):
+        """Two pulses alike: the first's end and the second's beginning cancel each other out."""
+        mask, states = self.rng.randrange(1, 256), self.rng.randrange(256)
+        for _ in range(2):
+            self.send(c, b"\x0A\x07" + bytes([mask, states]) + field(self.pick(1, 2, self.rng.randrange(1, 2000)), 4))
+        if len(self.box.queue) < 2:
+            return
+        first_end = sum(self.lefts()[:-1])
+        if first_end <= TOP32:
+            self.over_the_end(c, first_end)
+
+    def over_the_end(self, c, ms):
+        """So many ms, the last of them alone, with nothing due before it."""
+        self.say(f"pass {ms - 1}")
+        self.say(f"collect {c} 4096")
+        self.say(f"pass 1{self.row(6)}")
+        self.say(self.pick("state", f"collect {c} 4096"))
+
+    def scene_full_queue(self, c):
+        """Pulses until the queue is full, more of them, right and wrong; then some or all end, and more come."""
+        short = self.one_in(2)
+        while len(self.box.queue) < PULSES:
+            self.send(c, self.right_pulse(self.rng.randrange(1, 9) if short else self.duration()))
+        for _ in range(self.rng.randrange(2, 6)):
+            self.more_than_full(c)
+        self.say(f"pass {self.ms_to_an_end()}")
+        for _ in range(self.rng.randrange(1, 4)):
+            self.more_than_full(c)
+        self.say("state")
+
+    def more_than_full(self, c):
+        """A right pulse, or one whose duration, channel, length or action is wrong: judged before the full queue."""
+        right = self.right_pulse(self.duration())
+        self.send(c, self.pick(right, right, right, self.pulse_content(), right[:4] + bytes(4),
+                               b"\x0A\x06" + field(self.pick(0, 9, 257), 2) + right[4:], right[:7], right + b"\x00",
+                               b"\x0A\x04" + right[2:]))
+
     def scene_byte_by_byte(self, c):
         """A message in pieces of one byte.  Its content holds 0x01 and 0x06 where it can."""
         content = self.pick(b"\x17\x00\x01" + field(RELAY_IDS[0], 8) + b"\x00\x02\x01\x01", b"\x05\x00\x01\x01\x06\x06\x01",
-                            b"\x0A\x0A\x06\x06", b"\x0A\x0A\x01\x01", b"\x05\x00\x01", b"\x06", b"\x01",
+                            b"\x0A\x0A\x06\x06", b"\x0A\x0A\x01\x01", b"\x0A\x06\x00\x01\x00\x00\x01\x06", b"\x05\x00\x01",
+                            b"\x06", b"\x01",
                             b"\x17\x00\x01" + field(INPUT_IDS[5], 8) + b"\x00\x05\x02\x01\x06\x06\x01")
         message = framed(content, self.checksum(content))
         for byte in message:
@@ -622,14 +731,15 @@ class Maker:
     MESSAGES = ((right_or_wrong, 70), (keep_alive, 8), (stray, 6), (empty_content, 4), (wrong_type, 5), (oversize, 4),
                 (long, 1.5), (garbage_header, .7))
 
-    CONTENTS = ((request_content, 15), (clock_setting, 6), (command_content, 24), (read_content, 10), (write_content, 20),
-                (enumerate_content, 6))
+    CONTENTS = ((request_content, 15), (clock_setting, 6), (command_content, 24), (pulse_content, 16), (read_content, 10),
+                (write_content, 20), (enumerate_content, 6))
 
     SCENES = (scene_count_top, scene_count_alarm, scene_usage_alarm, scene_clock, scene_nothing_changed,
-              scene_there_and_back, scene_monitor_off_and_on, scene_half_and_close, scene_two_halves, scene_byte_by_byte)
+              scene_there_and_back, scene_monitor_off_and_on, scene_half_and_close, scene_two_halves, scene_byte_by_byte,
+              scene_meanwhile, scene_meanwhile, scene_cancelling, scene_cancelling, scene_full_queue)
 
     STEPS = ((do_talk, 70), (do_level, 7), (do_pass, 5), (do_collect, 7), (do_open, 6), (do_close, 2.5), (do_state, 5),
-             (do_power, .4), (do_bad_line, 2), (do_scene, 4))
+             (do_power, .4), (do_bad_line, 2), (do_scene, 5))
 
     def make(self, events):
         if not self.one_in(5):                                  # the tool starts as after `power`

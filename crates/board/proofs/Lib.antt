@@ -3,3 +3,4 @@ pub mod Keeping
 pub mod PowerUp
 pub mod Rooms
 pub mod Same
+pub mod Timed

@@ -1,1 +1,5 @@
+pub mod Calling
+pub mod Stored
+pub mod Turns
+pub mod Types
 pub mod Unique

@@ -1,14 +1,20 @@
 -- For one input, two answers that a contract allows are equal, and so is what is left of what was lent. Assumes nothing.
 use mathlib.Core.Path.{_≡_, sym, _∙_}
+use mathlib.Core.List.{List}
+use Prim.Native.Nat.{ℕ}
+use lib.ListN.{length}
 use denote.Ref.{now}
+use Rattle.rows.specs.Places.{Board}
+use Rattle.pulses.specs.declared.Pulse.{Pulse}
+use Rattle.board.specs.declared.Done.{Done}
+use Rattle.board.specs.Halves.{Halves}
+use Rattle.board.specs.Calls.{Effect, passCall, bytesCall, halvesAfter, roomsAfter, rowAfter, Ends, Answers}
 use Rattle.board.proofs.Same.{ends, answers, halved}
 use Rattle.capi.proofs.wellacorn_power_up.Reads as power-up
 use Rattle.capi.proofs.wellacorn_level.Reads as level
-use Rattle.capi.proofs.wellacorn_pass.Reads as pass
 use Rattle.capi.proofs.wellacorn_connect.Reads as connect
 use Rattle.capi.proofs.wellacorn_close.Reads as close
 use Rattle.capi.proofs.wellacorn_collect.Reads as collect
-use Rattle.capi.proofs.wellacorn_bytes.Reads as bytes
 
 pub unique-power-up : (κs : _) (a : _) (r r′ : _) (s s′ : _) → power-up.Post κs a r s → power-up.Post κs a r′ s′ → now (s .0) ≡ now (s′ .0)
 unique-power-up κs a r r′ s s′ p q = p ∙ sym q
@@ -16,8 +22,10 @@ unique-power-up κs a r r′ s s′ p q = p ∙ sym q
 pub unique-level : (κs : _) (a : _) (r r′ : _) (s s′ : _) → level.Post κs a r s → level.Post κs a r′ s′ → (r ≡ r′) × (now (s .0) ≡ now (s′ .0))
 unique-level κs a r r′ s s′ p q = ends p q
 
-pub unique-pass : (κs : _) (a : _) (r r′ : _) (s s′ : _) → pass.Post κs a r s → pass.Post κs a r′ s′ → (r ≡ r′) × (now (s .0) ≡ now (s′ .0))
-unique-pass κs a r r′ s s′ p q = ends p q
+-- the contract of `capi::wellacorn_pass`, written out: its proof is a walk, which gives it no name
+pub unique-pass : (d : ℕ) (row : List Pulse) (b : Board) {b₁ b₂ : Board} {r₁ r₂ : Done} → Ends (passCall d row b) b₁ r₁ → Ends (passCall d row b) b₂ r₂
+    → (r₁ ≡ r₂) × (b₁ ≡ b₂)
+unique-pass d row b p q = ends p q
 
 pub unique-connect : (κs : _) (a : _) (r r′ : _) (s s′ : _) → connect.Post κs a r s → connect.Post κs a r′ s′
     → (r ≡ r′) × (now (s .0) ≡ now (s′ .0)) × (now (s .1 .0) ≡ now (s′ .1 .0))
@@ -31,9 +39,20 @@ pub unique-collect : (κs : _) (a : _) (r r′ : _) (s s′ : _) → collect.Pos
     → (r ≡ r′) × (now (s .0) ≡ now (s′ .0)) × (now (s .1 .1 .0) ≡ now (s′ .1 .1 .0))
 unique-collect κs a r r′ s s′ p q = answers p q
 
-pub unique-bytes : (κs : _) (a : _) (r r′ : _) (s s′ : _) → bytes.Post κs a r s → bytes.Post κs a r′ s′
-    → (r ≡ r′) × (now (s .0) ≡ now (s′ .0)) × (now (s .1 .0) ≡ now (s′ .1 .0)) × (now (s .1 .1 .0) ≡ now (s′ .1 .1 .0)) ×
-    (now (s .1 .1 .1 .1 .1 .0) ≡ now (s′ .1 .1 .1 .1 .1 .0))
-unique-bytes κs a r r′ s s′ p q =
-    let same = answers (p .0) (q .0) in
-    (same .0, same .1, p .1 .0 ∙ sym (q .1 .0), p .1 .1 ∙ sym (q .1 .1), same .2)
+module _ (c : ℕ) (piece : List ℕ) (b : Board) (hs : Halves) (rooms : List ℕ) (row : List Pulse) (o : List ℕ) where
+  abbrev effect : Effect
+  effect = bytesCall c piece (length o) (length row) b hs rooms
+
+  -- the contract of `capi::wellacorn_bytes`, written out likewise: an answer, and all that is lent, after the call
+  pub record Said (b₁ : Board) (hs₁ : Halves) (rooms₁ : List ℕ) (row₁ : List Pulse) (o₁ : List ℕ) (r : Done) : Type 0 where
+    pub answered : Answers effect b₁ o o₁ r
+    pub halves : hs₁ ≡ halvesAfter c piece (length o) (length row) b hs rooms
+    pub roomed : rooms₁ ≡ roomsAfter c piece (length o) (length row) b hs rooms
+    pub queued : row₁ ≡ rowAfter b (effect .did .board) row
+
+  pub unique-bytes : {b₁ b₂ : Board} {hs₁ hs₂ : Halves} {rooms₁ rooms₂ : List ℕ} {row₁ row₂ : List Pulse} {o₁ o₂ : List ℕ} {r₁ r₂ : Done}
+      → Said b₁ hs₁ rooms₁ row₁ o₁ r₁ → Said b₂ hs₂ rooms₂ row₂ o₂ r₂
+      → (r₁ ≡ r₂) × (b₁ ≡ b₂) × (hs₁ ≡ hs₂) × (rooms₁ ≡ rooms₂) × (row₁ ≡ row₂) × (o₁ ≡ o₂)
+  unique-bytes p q =
+      let same = answers (p .answered) (q .answered) in
+      (same .0, same .1, p .halves ∙ sym (q .halves), p .roomed ∙ sym (q .roomed), p .queued ∙ sym (q .queued), same .2)

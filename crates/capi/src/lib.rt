@@ -1,13 +1,14 @@
-// The C boundary: one thin exported function an entry point of the board, under the names of host/wellacorn.h.
-// Board, halves and rooms go as pointers, a slice as pointer and length, settings and what a call came to by value. Each contract is the
-// board's own.
+// The C boundary: one thin exported function an entry point, under the names of host/wellacorn.h.
+// Board, halves and rooms go as pointers, a slice as pointer and length, settings and what a call came to by value. The lent row of pulses is
+// seen here and in the crate lent alone: what the board needs of it goes by value. Where no row is lent the contract is the board's own.
 
 ghost use mathlib.Core.Path.{_≡_};
 ghost use lib.ListN.{length};
 ghost use Rattle.board.specs.PowerUp.{poweredUp};
-ghost use Rattle.board.specs.Calls.{levelCall, passCall, connectCall, closeCall, collectCall, bytesCall, dropped, halvesAfter, roomsAfter, Ends, Answers};
+ghost use Rattle.board.specs.Calls.{levelCall, passCall, connectCall, closeCall, collectCall, bytesCall, dropped, halvesAfter, roomsAfter, rowAfter, Ends, Answers};
 use board::Done;
 use board::Settings;
+use pulses::Pulse;
 use rows::ROWS;
 
 // The box at power-up, with what the host sets.
@@ -26,12 +27,19 @@ pub extern "C" fn wellacorn_level(board: &mut [[u64; 8]; ROWS], k: u8, v: u8) ->
     board::level(board, k, v)
 }
 
-// d ms have passed.
+// d ms have passed. The row is looked into at the ends of pulses alone.
 #[no_mangle]
-pub extern "C" fn wellacorn_pass(board: &mut [[u64; 8]; ROWS], d: u32) -> Done
-    ensures { λ r. ⌜ Ends (passCall d (now (board .entry))) (now (board .exit)) r ⌝ }
+pub extern "C" fn wellacorn_pass(board: &mut [[u64; 8]; ROWS], row: &[Pulse], d: u32) -> Done
+    ensures { λ r. ⌜ Ends (passCall d (now (row .entry)) (now (board .entry))) (now (board .exit)) r ⌝ }
 {
-    board::pass(board, d)
+    let records = row.len();
+    let mut t = pulses::time_of(board, records, d);
+    while pulses::going(t) {
+        let ending = lent::pulse_at(row, pulses::first_of(t));
+        let next = lent::pulse_at(row, pulses::next_of(t));
+        t = pulses::turn(board, ending, next, t);
+    }
+    board::passed(t)
 }
 
 // Connection c is opened at a rank.
@@ -67,15 +75,22 @@ pub extern "C" fn wellacorn_bytes(
     board: &mut [[u64; 8]; ROWS],
     halves: &mut [[u64; 3]; 4],
     rooms: &mut [u8; 4096],
+    row: &mut [Pulse],
     c: u8,
     piece: &[u8],
     reply: &mut [u8],
 ) -> Done
-    ensures { λ r. ⌜ Answers (bytesCall c (now (piece .entry)) (length (now (reply .entry))) (now (board .entry)) (now (halves .entry)) (now (rooms .entry))) (now (board .exit)) (now (reply .entry)) (now (reply .exit)) r ⌝ }
-    ensures { λ r. ⌜ now (halves .exit) ≡ halvesAfter c (now (piece .entry)) (length (now (reply .entry))) (now (board .entry)) (now (halves .entry)) (now (rooms .entry)) ⌝ }
-    ensures { λ r. ⌜ now (rooms .exit) ≡ roomsAfter c (now (piece .entry)) (length (now (reply .entry))) (now (board .entry)) (now (halves .entry)) (now (rooms .entry)) ⌝ }
+    ensures { λ r. ⌜ Answers (bytesCall c (now (piece .entry)) (length (now (reply .entry))) (length (now (row .entry))) (now (board .entry)) (now (halves .entry)) (now (rooms .entry))) (now (board .exit)) (now (reply .entry)) (now (reply .exit)) r ⌝ }
+    ensures { λ r. ⌜ now (halves .exit) ≡ halvesAfter c (now (piece .entry)) (length (now (reply .entry))) (length (now (row .entry))) (now (board .entry)) (now (halves .entry)) (now (rooms .entry)) ⌝ }
+    ensures { λ r. ⌜ now (rooms .exit) ≡ roomsAfter c (now (piece .entry)) (length (now (reply .entry))) (length (now (row .entry))) (now (board .entry)) (now (halves .entry)) (now (rooms .entry)) ⌝ }
+    ensures { λ r. ⌜ now (row .exit) ≡ rowAfter (now (board .entry)) (bytesCall c (now (piece .entry)) (length (now (reply .entry))) (length (now (row .entry))) (now (board .entry)) (now (halves .entry)) (now (rooms .entry)) .did .board) (now (row .entry)) ⌝ }
 {
-    board::bytes(board, halves, rooms, c, piece, reply)
+    let records = row.len();
+    let t = board::bytes(board, halves, rooms, records, c, piece, reply);
+    let at = board::seat(t);
+    let p = board::pulse_of(t);
+    lent::put_pulse(row, at, p);
+    board::done_of(t)
 }
 
 // Monitor is collected on connection c, if it is due.

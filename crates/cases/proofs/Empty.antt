@@ -24,23 +24,24 @@ use Rattle.layouts.specs.Layouts.{onChannel, judgeCommand}
 use Rattle.orders.specs.Orders.{commandOf, orderOf}
 use Rattle.replies.specs.Replies.{relaysOf}
 use Rattle.readings.specs.Readings.{monitorReply}
-use Rattle.rows.specs.Places.{Board, isConnection, relayAt, lineAt, putRelay, putLine, onRows}
+use Rattle.rows.specs.Places.{isConnection, relayAt, lineAt, putRelay, putLine, onRows, queueOf}
+use Rattle.pulses.specs.declared.Pulse.{Pulse}
 use Rattle.plain.specs.Lines.{openedLine}
-use Rattle.plain.specs.Marks.{markedRow, marked}
+use Rattle.marks.specs.Marks.{markedRow, marked}
 use Rattle.plain.specs.Events.{connected, monitorSent, collected}
 use Rattle.serving.specs.Obeying.{obeyed}
 use Rattle.serving.specs.Serving.{servedContent, servedMessage}
 use Rattle.board.specs.declared.Settings.{Settings}
 use Rattle.board.specs.Halves.{Halves, halfIn, halfAt, putHalf}
 use Rattle.board.specs.PowerUp.{poweredUp}
-use Rattle.board.specs.Calls.{connectCall}
+use Rattle.board.specs.Calls.{connectCall, rowAfter}
 use Rattle.demand.specs.Demand.{Call, bytes, other, Answer, Machine, final, trace, begins, Meets}
 use Rattle.demand.proofs.Following.{answers-now, answers-after, answers-all}
 use Rattle.demand.proofs.Empty.{Waiting, Frozen, Starving, Nodding, whole-served, not-idle, not-starving, not-frozen, not-nodding}
 use Rattle.demand.proofs.Taking.{rest-none}
-use Rattle.register.specs.Box.{connect, collect, Reply, replyOf, refusalOf, served, box, ends, run}
+use Rattle.register.specs.Box.{connect, collect, Reply, replyOf, Tables, refusalOf, served, tablesOf, box, ends, run}
 use Rattle.cases.specs.Starred.{settings, after, relayBits}
-use Rattle.cases.specs.Empty.{shown, opened, RefusesAll, SameNumber, SameBytes}
+use Rattle.cases.specs.Empty.{shown, poweredTables, opened, RefusesAll, SameNumber, SameBytes}
 use Rattle.register.proofs.BoxDemand.{box-determined}
 use Rattle.register.proofs.BoxLawful.{Sound, box-meets}
 
@@ -53,19 +54,19 @@ unfolding messages cuts whole need
 toggle-whole = refl
 
 -- the plain machine after it
-abbrev toggled : Board → Board
+abbrev toggled : Tables → Tables
 toggled p = served .serve p 0 (seen 1024 toggle) .0
 
 -- it changes relay 1, and again when it comes again
-changes-once : relayBits (toggled opened) ≡ 1
-unfolding relaysOf relayAt lineAt putRelay putLine onRows poweredUp connectCall connected openedLine seen servedMessage servedContent orderOf commandOf judgeCommand onChannel fits numberAt obeyed onRelay marked markedRow
+changes-once : relayBits (toggled opened .board) ≡ 1
+unfolding relaysOf relayAt lineAt putRelay putLine onRows poweredUp connectCall connected openedLine seen servedMessage servedContent orderOf commandOf judgeCommand onChannel fits numberAt obeyed onRelay marked markedRow rowAfter queueOf
 changes-once = refl
 
-changes-twice : relayBits (toggled (toggled opened)) ≡ 0
-unfolding relaysOf relayAt lineAt putRelay putLine onRows poweredUp connectCall connected openedLine seen servedMessage servedContent orderOf commandOf judgeCommand onChannel fits numberAt obeyed onRelay marked markedRow
+changes-twice : relayBits (toggled (toggled opened) .board) ≡ 0
+unfolding relaysOf relayAt lineAt putRelay putLine onRows poweredUp connectCall connected openedLine seen servedMessage servedContent orderOf commandOf judgeCommand onChannel fits numberAt obeyed onRelay marked markedRow rowAfter queueOf
 changes-twice = refl
 
-not-yet : relayBits (opened) ≡ 0
+not-yet : relayBits (opened .board) ≡ 0
 unfolding relaysOf relayAt lineAt putRelay putLine onRows poweredUp connectCall connected
 not-yet = refl
 
@@ -75,7 +76,7 @@ unfolding relaysOf relayAt lineAt putRelay putLine onRows poweredUp connectCall 
 takes-bytes = refl
 
 takes-more : refusalOf (toggled opened) 0 4096 ≡ none
-unfolding relaysOf relayAt lineAt putRelay putLine onRows poweredUp connectCall connected openedLine seen servedMessage servedContent orderOf commandOf judgeCommand onChannel fits numberAt obeyed onRelay marked markedRow
+unfolding relaysOf relayAt lineAt putRelay putLine onRows poweredUp connectCall connected openedLine seen servedMessage servedContent orderOf commandOf judgeCommand onChannel fits numberAt obeyed onRelay marked markedRow rowAfter queueOf
 takes-more = refl
 
 -- at power-up: an opening of connection 0 is served, one of connection 4 is refused
@@ -96,7 +97,7 @@ collection-sends : getD (collected 0 4096 (connected 0 2 (poweredUp settings) .b
 unfolding relaysOf relayAt lineAt putRelay putLine onRows poweredUp connected openedLine collected monitorSent monitorReply
 collection-sends = refl
 
-module _ (M : Machine served) (x : M .State) (D : Meets served M x) (up : M .tables x ≡ poweredUp settings) where
+module _ (M : Machine served) (x : M .State) (D : Meets served M x) (row : List Pulse) (up : M .tables x ≡ poweredTables settings row) where
   -- the answer to a first call that is an opening, and that to a collection behind it
   first-reply : (c : ℕ) → shown (M .call x (other (connect c 2)) .1 .said) ≡ replyOf (connected c 2 (poweredUp settings))
   first-reply c = rw (answers-now served M x (begins served M x) (answers-all served M x D) (other (connect c 2)), up)
@@ -136,16 +137,16 @@ module _ (M : Machine served) (x : M .State) (D : Meets served M x) (up : M .tab
 
   pub shut-out-frozen : Frozen served M x → ⊥
   shut-out-frozen I = not-frozen served M x D I 0 4096 toggle ready toggle-whole
-      (rw up (λ e. omega (arith, ap (λ (p : Board). relayBits p) e, changes-once, not-yet)))
+      (rw up (λ e. omega (arith, ap (λ (t : Tables). relayBits (t .board)) e, changes-once, not-yet)))
 
   -- the tables after the first message
   first-done : M .tables (M .call x (bytes 0 4096 toggle) .0) ≡ toggled opened
-  first-done = ap (λ (y : Board × Answer served). y .0) (whole-served served M x D [] 0 4096 toggle toggle-whole rest-none ready) ∙ ap toggled up
+  first-done = ap (λ (y : Tables × Answer served). y .0) (whole-served served M x D [] 0 4096 toggle toggle-whole rest-none ready) ∙ ap toggled up
 
   pub shut-out-nodding : (nod : Reply) → Nodding served M (M .call x (bytes 0 4096 toggle) .0) nod → ⊥
   shut-out-nodding nod N =
       not-nodding served M x D 0 4096 toggle toggle nod ready toggle-whole toggle-whole (rw first-done takes-more) N
-      (rw first-done (λ e. omega (arith, ap (λ (y : Board × Reply). relayBits (y .0)) e, changes-once, changes-twice)))
+      (rw first-done (λ e. omega (arith, ap (λ (y : Tables × Reply). relayBits (y .0 .board)) e, changes-once, changes-twice)))
 
 -- the box after power-up, with connection 0 opened at rank 2
 sound-opened : Sound (after [])
@@ -165,8 +166,8 @@ pub meets-opened : Meets served box (after [])
 meets-opened = box-meets (after []) sound-opened (λ c o. fresh-opened c)
 
 -- whatever a machine shows that the box does not: an answer number, a reply's bytes or length, bytes taken; or a count in its tables
-pub shut-out-inventing : (s : Settings) (hs : Halves) (rooms : List ℕ) → length hs ≡ 4 → length rooms ≡ 4096
-    → (M : Machine served) (x : M .State) → M .tables x ≡ poweredUp s → (calls : List (Call served))
-    → ((trace served M x calls ≡ run s hs rooms calls) × (M .tables (final served M x calls) ≡ ends s hs rooms calls .board) → ⊥)
+pub shut-out-inventing : (s : Settings) (hs : Halves) (rooms : List ℕ) (row : List Pulse) → length hs ≡ 4 → length rooms ≡ 4096
+    → (M : Machine served) (x : M .State) → M .tables x ≡ poweredTables s row → (calls : List (Call served))
+    → ((trace served M x calls ≡ run s hs rooms row calls) × (M .tables (final served M x calls) ≡ tablesOf (ends s hs rooms row calls)) → ⊥)
     → Meets served M x → ⊥
-shut-out-inventing s hs rooms four long M x up calls differs D = differs (box-determined s hs rooms four long M x calls up (D calls))
+shut-out-inventing s hs rooms row four long M x up calls differs D = differs (box-determined s hs rooms row four long M x calls up (D calls))

@@ -10,16 +10,16 @@ use native.Mathlib.Omega.{arith}
 use lib.ListN.{getD, replicate}
 use Rattle.laws.specs.Put.{put}
 use Rattle.framing.specs.Reading.{stepOf, firstOf, afterOf, roomOf, runOf}
-use Rattle.rows.specs.Places.{lineAt, putLine, onRows}
+use Rattle.rows.specs.Places.{lineAt, putLine, onRows, queueOf}
 use Rattle.plain.specs.Lines.{openedLine}
 use Rattle.plain.specs.Events.{connected, closed}
 use Rattle.serving.specs.Serving.{servedMessage}
 use Rattle.board.specs.PowerUp.{poweredUp}
 use Rattle.board.specs.Halves.{Halves, halfAt, putHalf}
-use Rattle.board.specs.Calls.{connectCall, closeCall, bytesCall, halvesAfter, roomsAfter}
+use Rattle.board.specs.Calls.{connectCall, closeCall, bytesCall, halvesAfter, roomsAfter, rowAfter}
 use Rattle.demand.specs.Demand.{Call, Answer, trace, Demand3}
 use Rattle.register.specs.Box.{served, Held, atPowerUp, run}
-use Rattle.cases.specs.Starred.{settings}
+use Rattle.cases.specs.Starred.{settings, noPulses}
 use Rattle.cases.specs.Lost.{boxWith, sharedCall, mutedCall, keepingCall, numbers, crossing, knocking, reopening}
 use Rattle.register.proofs.BoxDemand.{box-determined}
 
@@ -31,45 +31,45 @@ rooms = replicate 4096 0
 
 -- the answer numbers of a run of the box, and of one of its versions
 abbrev boxNumbers : List (Call served) → List ℕ
-boxNumbers calls = numbers (run settings halves rooms calls)
+boxNumbers calls = numbers (run settings halves rooms noPulses calls)
 
 abbrev numbersWith : (Held → Call served → Held × Answer served) → List (Call served) → List ℕ
-numbersWith call calls = numbers (trace served (boxWith call) (atPowerUp settings halves rooms) calls)
+numbersWith call calls = numbers (trace served (boxWith call) (atPowerUp settings halves rooms noPulses) calls)
 
 -- a version that meets the demand on a run has the box's numbers there
 same-numbers : (call : Held → Call served → Held × Answer served) (calls : List (Call served))
-    → Demand3 served (boxWith call) (atPowerUp settings halves rooms) calls → numbersWith call calls ≡ boxNumbers calls
-same-numbers call calls D = ap numbers (box-determined settings halves rooms refl refl (boxWith call) (atPowerUp settings halves rooms) calls refl D .0)
+    → Demand3 served (boxWith call) (atPowerUp settings halves rooms noPulses) calls → numbersWith call calls ≡ boxNumbers calls
+same-numbers call calls D = ap numbers (box-determined settings halves rooms noPulses refl refl (boxWith call) (atPowerUp settings halves rooms noPulses) calls refl D .0)
 
 box-crossing : boxNumbers crossing ≡ 1 ∷ 1 ∷ 0 ∷ 2 ∷ []
-unfolding put stepOf firstOf afterOf roomOf runOf lineAt putLine onRows openedLine connected servedMessage poweredUp halfAt putHalf connectCall bytesCall halvesAfter roomsAfter
+unfolding put stepOf firstOf afterOf roomOf runOf lineAt putLine onRows openedLine connected servedMessage poweredUp halfAt putHalf connectCall bytesCall halvesAfter roomsAfter rowAfter queueOf
 box-crossing = refl
 
 shared-crossing : numbersWith sharedCall crossing ≡ 1 ∷ 1 ∷ 0 ∷ 0 ∷ []
-unfolding put stepOf firstOf afterOf roomOf runOf lineAt putLine onRows openedLine connected servedMessage poweredUp halfAt putHalf connectCall bytesCall halvesAfter roomsAfter
+unfolding put stepOf firstOf afterOf roomOf runOf lineAt putLine onRows openedLine connected servedMessage poweredUp halfAt putHalf connectCall bytesCall halvesAfter roomsAfter rowAfter queueOf
 shared-crossing = refl
 
-pub shut-out-shared : Demand3 served (boxWith sharedCall) (atPowerUp settings halves rooms) crossing → ⊥
+pub shut-out-shared : Demand3 served (boxWith sharedCall) (atPowerUp settings halves rooms noPulses) crossing → ⊥
 shut-out-shared D = omega (arith, ap (λ (ns : List ℕ). getD ns 3 0) (sym shared-crossing ∙ same-numbers sharedCall crossing D ∙ box-crossing))
 
 box-knocking : boxNumbers knocking ≡ 1 ∷ 2 ∷ []
-unfolding put stepOf firstOf afterOf roomOf runOf lineAt putLine onRows openedLine connected servedMessage poweredUp halfAt putHalf connectCall bytesCall halvesAfter roomsAfter
+unfolding put stepOf firstOf afterOf roomOf runOf lineAt putLine onRows openedLine connected servedMessage poweredUp halfAt putHalf connectCall bytesCall halvesAfter roomsAfter rowAfter queueOf
 box-knocking = refl
 
 muted-knocking : numbersWith mutedCall knocking ≡ 1 ∷ 0 ∷ []
 unfolding lineAt putLine onRows openedLine connected poweredUp connectCall bytesCall
 muted-knocking = refl
 
-pub shut-out-muted : Demand3 served (boxWith mutedCall) (atPowerUp settings halves rooms) knocking → ⊥
+pub shut-out-muted : Demand3 served (boxWith mutedCall) (atPowerUp settings halves rooms noPulses) knocking → ⊥
 shut-out-muted D = omega (arith, ap (λ (ns : List ℕ). getD ns 1 0) (sym muted-knocking ∙ same-numbers mutedCall knocking D ∙ box-knocking))
 
 box-reopening : boxNumbers reopening ≡ 1 ∷ 0 ∷ 1 ∷ 1 ∷ 2 ∷ []
-unfolding put stepOf firstOf afterOf roomOf runOf lineAt putLine onRows openedLine connected closed servedMessage poweredUp halfAt putHalf connectCall closeCall bytesCall halvesAfter roomsAfter
+unfolding put stepOf firstOf afterOf roomOf runOf lineAt putLine onRows openedLine connected closed servedMessage poweredUp halfAt putHalf connectCall closeCall bytesCall halvesAfter roomsAfter rowAfter queueOf
 box-reopening = refl
 
 keeping-reopening : numbersWith keepingCall reopening ≡ 1 ∷ 0 ∷ 1 ∷ 1 ∷ 0 ∷ []
-unfolding put stepOf firstOf afterOf roomOf runOf lineAt putLine onRows openedLine connected closed servedMessage poweredUp halfAt putHalf connectCall closeCall bytesCall halvesAfter roomsAfter
+unfolding put stepOf firstOf afterOf roomOf runOf lineAt putLine onRows openedLine connected closed servedMessage poweredUp halfAt putHalf connectCall closeCall bytesCall halvesAfter roomsAfter rowAfter queueOf
 keeping-reopening = refl
 
-pub shut-out-keeping : Demand3 served (boxWith keepingCall) (atPowerUp settings halves rooms) reopening → ⊥
+pub shut-out-keeping : Demand3 served (boxWith keepingCall) (atPowerUp settings halves rooms noPulses) reopening → ⊥
 shut-out-keeping D = omega (arith, ap (λ (ns : List ℕ). getD ns 4 0) (sym keeping-reopening ∙ same-numbers keepingCall reopening D ∙ box-reopening))

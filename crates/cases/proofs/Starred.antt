@@ -7,7 +7,7 @@ use Rattle.laws.specs.Each.{anyBelow}
 use Rattle.laws.specs.Chunks.{chunks}
 use Rattle.words.specs.Words.{fits, numberAt}
 use Rattle.framing.specs.Reading.{stepOf, firstOf, afterOf, roomOf, runOf}
-use Rattle.rows.specs.Places.{inputAt, relayAt, lineAt, putInput, putRelay, putLine, onRows}
+use Rattle.rows.specs.Places.{inputAt, relayAt, lineAt, putInput, putRelay, putLine, onRows, queueOf}
 use Rattle.tables.specs.Alarms.{alarmState, countAlarm, usageAlarm}
 use Rattle.changes.specs.Answers.{onInput, onRelay}
 use Rattle.changes.specs.Levels.{told, levelOf}
@@ -15,20 +15,20 @@ use Rattle.changes.specs.Commands.{masked, blockedRow, blockOf}
 use Rattle.tables.specs.Devices.{idOf, firstWith, deviceOf}
 use Rattle.changes.specs.Entries.{inputWritten, writeInput}
 use Rattle.orders.specs.Entries.{fitsExactly}
-use Rattle.layouts.specs.Layouts.{sizedRequest, judgeRequest, onChannel, onBlock, judgeCommand, judgeRead, judgeWrite}
+use Rattle.layouts.specs.Layouts.{sizedRequest, judgeRequest, ifSized, onChannel, judgeCommand, judgeRead, judgeWrite}
 use Rattle.orders.specs.Orders.{requestOf, commandOf, readOf, writeOf, orderOf}
 use Rattle.readings.specs.Readings as readings
 use Rattle.replies.specs.Replies.{inputsOf, relaysOf}
 use Rattle.readings.specs.Readings.{inputRow, monitorReply, inputBlock, entryOf, idsIn, devicesReply}
 use Rattle.writes.specs.Writes.{deviceDone, writtenFrom}
 use Rattle.plain.specs.Lines.{openedLine}
-use Rattle.plain.specs.Marks.{markedRow, marked}
+use Rattle.marks.specs.Marks.{markedRow, marked}
 use Rattle.plain.specs.Events.{leveled, connected, monitorSent, collected}
 use Rattle.serving.specs.Obeying.{monitorSet, obeyed}
 use Rattle.serving.specs.Serving.{servedContent, servedMessage}
 use Rattle.board.specs.PowerUp.{poweredUp}
 use Rattle.board.specs.Halves.{halfAt, putHalf}
-use Rattle.board.specs.Calls.{levelCall, connectCall, collectCall, bytesCall, halvesAfter, roomsAfter}
+use Rattle.board.specs.Calls.{levelCall, connectCall, collectCall, bytesCall, halvesAfter, roomsAfter, rowAfter}
 use Rattle.cases.specs.Starred.{Row, countTop, toldAgain, blockCases, channelEdges, lengthCases, writeCases, starredCases}
 
 -- every row of them does what 01 owes
@@ -43,7 +43,7 @@ both : {xs ys : List Row} → Holds xs → Holds ys → Holds (xs ++ ys)
 both {xs} {ys} p q = record { rows = rw (map-both (λ (r : Row). r .does) xs ys, map-both (λ (r : Row). r .owes) xs ys, p .rows, q .rows) }
 
 count-top : Holds countTop
-unfolding countTop inputAt putInput onInput told levelOf idOf firstWith deviceOf inputWritten writeInput fitsExactly judgeWrite writeOf deviceDone writtenFrom markedRow leveled levelCall put fits numberAt stepOf firstOf afterOf roomOf runOf lineAt putLine onRows orderOf openedLine marked connected obeyed servedContent servedMessage poweredUp halfAt putHalf connectCall bytesCall halvesAfter roomsAfter
+unfolding countTop inputAt putInput onInput told levelOf idOf firstWith deviceOf inputWritten writeInput fitsExactly judgeWrite writeOf deviceDone writtenFrom markedRow leveled levelCall put fits numberAt stepOf firstOf afterOf roomOf runOf lineAt putLine onRows orderOf openedLine marked connected obeyed servedContent servedMessage poweredUp halfAt putHalf connectCall bytesCall halvesAfter roomsAfter rowAfter queueOf
 count-top = record { rows = refl }
 
 told-again : Holds toldAgain
@@ -51,19 +51,19 @@ unfolding toldAgain inputAt putInput onInput told levelOf markedRow leveled moni
 told-again = record { rows = refl }
 
 blocks : Holds blockCases
-unfolding blockCases anyBelow relayAt masked blockedRow blockOf onBlock judgeCommand commandOf relaysOf markedRow monitorSent collected collectCall put fits numberAt stepOf firstOf afterOf roomOf runOf lineAt putLine onRows orderOf openedLine marked connected obeyed servedContent servedMessage poweredUp halfAt putHalf connectCall bytesCall halvesAfter roomsAfter
+unfolding blockCases anyBelow relayAt masked blockedRow blockOf ifSized judgeCommand commandOf relaysOf markedRow monitorSent collected collectCall put fits numberAt stepOf firstOf afterOf roomOf runOf lineAt putLine onRows orderOf openedLine marked connected obeyed servedContent servedMessage poweredUp halfAt putHalf connectCall bytesCall halvesAfter roomsAfter rowAfter queueOf
 blocks = record { rows = refl }
 
 channels : Holds channelEdges
-unfolding channelEdges relayAt putRelay onRelay onChannel judgeCommand commandOf relaysOf markedRow put fits numberAt stepOf firstOf afterOf roomOf runOf lineAt putLine onRows orderOf openedLine marked connected obeyed servedContent servedMessage poweredUp halfAt putHalf connectCall bytesCall halvesAfter roomsAfter
+unfolding channelEdges relayAt putRelay onRelay onChannel judgeCommand commandOf relaysOf markedRow put fits numberAt stepOf firstOf afterOf roomOf runOf lineAt putLine onRows orderOf openedLine marked connected obeyed servedContent servedMessage poweredUp halfAt putHalf connectCall bytesCall halvesAfter roomsAfter rowAfter queueOf
 channels = record { rows = refl }
 
 lengths : Holds lengthCases
-unfolding lengthCases sizedRequest judgeRequest requestOf monitorSet put fits numberAt stepOf firstOf afterOf roomOf runOf lineAt putLine onRows orderOf openedLine marked connected obeyed servedContent servedMessage poweredUp halfAt putHalf connectCall bytesCall halvesAfter roomsAfter
+unfolding lengthCases sizedRequest judgeRequest requestOf monitorSet put fits numberAt stepOf firstOf afterOf roomOf runOf lineAt putLine onRows orderOf openedLine marked connected obeyed servedContent servedMessage poweredUp halfAt putHalf connectCall bytesCall halvesAfter roomsAfter rowAfter queueOf
 lengths = record { rows = refl }
 
 writes : Holds writeCases
-unfolding writeCases rows chunks inputAt relayAt putInput alarmState countAlarm usageAlarm onInput idOf firstWith deviceOf inputWritten writeInput fitsExactly judgeRead judgeWrite readOf writeOf inputsOf relaysOf inputRow monitorReply inputBlock readings.blockOf entryOf idsIn devicesReply deviceDone writtenFrom monitorSent collected collectCall put fits numberAt stepOf firstOf afterOf roomOf runOf lineAt putLine onRows orderOf openedLine marked connected obeyed servedContent servedMessage poweredUp halfAt putHalf connectCall bytesCall halvesAfter roomsAfter
+unfolding writeCases rows chunks inputAt relayAt putInput alarmState countAlarm usageAlarm onInput idOf firstWith deviceOf inputWritten writeInput fitsExactly judgeRead judgeWrite readOf writeOf inputsOf relaysOf inputRow monitorReply inputBlock readings.blockOf entryOf idsIn devicesReply deviceDone writtenFrom monitorSent collected collectCall put fits numberAt stepOf firstOf afterOf roomOf runOf lineAt putLine onRows orderOf openedLine marked connected obeyed servedContent servedMessage poweredUp halfAt putHalf connectCall bytesCall halvesAfter roomsAfter rowAfter queueOf
 writes = record { rows = refl }
 
 pub starred : map (λ (r : Row). r .does) starredCases ≡ map (λ (r : Row). r .owes) starredCases

@@ -2,9 +2,11 @@
 use mathlib.Core.Path.{_≡_}
 use mathlib.Core.List.{List, []}
 use Prim.Native.Nat.{ℕ, _≤_}
-use Rattle.rows.specs.Places.{Board}
+use Rattle.pulses.specs.declared.Pulse.{Pulse}
+use Rattle.board.specs.declared.Settings.{Settings}
+use Rattle.board.specs.PowerUp.{poweredUp}
 use Rattle.demand.specs.Demand.{Said, waits, refused, did, Call, Machine, final}
-use Rattle.register.specs.Box.{Reply, refusing, served}
+use Rattle.register.specs.Box.{Reply, refusing, Tables, tables, served, tablesOf}
 use Rattle.cases.specs.Starred.{after}
 
 -- the reply that an answer shows; where nothing ended it is number 0 without bytes
@@ -13,9 +15,12 @@ shown waits = refusing 0
 shown (refused r) = r
 shown (did r) = r
 
--- the board after power-up, with connection 0 opened at rank 2
-abbrev pub opened : Board
-opened = after [] .board
+-- the tables after power-up, and then with connection 0 opened at rank 2
+abbrev pub poweredTables : Settings → List Pulse → Tables
+poweredTables s row = tables (poweredUp s) row
+
+abbrev pub opened : Tables
+opened = tablesOf (after [])
 
 module _ (M : Machine served) (x : M .State) where
   -- "one refusing everything": each call from here on has one of the numbers from 3 on

@@ -4,16 +4,16 @@ use Prim.Native.Nat.{ℕ}
 use Rattle.board.specs.Halves.{halfAt, putHalf}
 use Rattle.board.specs.Rooms.{roomAt, putRoom}
 use Rattle.demand.specs.Demand.{waits, Call, bytes, other, Answer, answer, Machine, Trace}
-use Rattle.register.specs.Box.{connect, close, served, Held, held, boxCall}
+use Rattle.register.specs.Box.{connect, close, served, Held, held, tablesOf, boxCall}
 use Rattle.cases.specs.Empty.{shown}
 
 -- the box with another call
 abbrev pub boxWith : (Held → Call served → Held × Answer served) → Machine served
-boxWith call = record { State = Held; tables = λ x. x .board; call = call }
+boxWith call = record { State = Held; tables = tablesOf; call = call }
 
 -- "one half-read store for two connections": connection d has what connection c has read
 abbrev pub lending : ℕ → ℕ → Held → Held
-lending c d x = held (x .board) (putHalf d (halfAt c (x .halves)) (x .halves)) (putRoom d (roomAt c (x .rooms)) (x .rooms))
+lending c d x = held (x .board) (putHalf d (halfAt c (x .halves)) (x .halves)) (putRoom d (roomAt c (x .rooms)) (x .rooms)) (x .row)
 
 -- every piece is read on from connection 0's store, and left there
 abbrev pub sharedCall : Held → Call served → Held × Answer served
@@ -28,7 +28,7 @@ mutedCall x (other e) = boxCall x (other e)
 -- a message half read at a closing is kept, and read on after the next opening: no event touches the half-read messages
 abbrev pub keepingCall : Held → Call served → Held × Answer served
 keepingCall x (bytes c room piece) = boxCall x (bytes c room piece)
-keepingCall x (other e) = (held (boxCall x (other e) .0 .board) (x .halves) (x .rooms), boxCall x (other e) .1)
+keepingCall x (other e) = (held (boxCall x (other e) .0 .board) (x .halves) (x .rooms) (x .row), boxCall x (other e) .1)
 
 -- the answer numbers of a run
 abbrev pub numbers : Trace served → List ℕ

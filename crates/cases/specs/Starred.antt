@@ -6,6 +6,8 @@ use Prim.Native.Nat.{ℕ, _+_, _*_}
 use lib.ListN.{length, getD, replicate}
 use Rattle.rows.specs.declared.Relay.{Relay}
 use Rattle.rows.specs.Places.{Board, inputAt, lineAt}
+use Rattle.pulses.specs.declared.Pulse.{Pulse}
+use Rattle.pulses.specs.Pulses.{pulseOf}
 use Rattle.replies.specs.Replies.{relaysOf}
 use Rattle.board.specs.declared.Settings.{Settings}
 use Rattle.demand.specs.Demand.{Call, bytes, other}
@@ -41,9 +43,13 @@ readsInput = sends (0x15 ∷ 0x00 ∷ 0x01 ∷ 0 ∷ 0 ∷ 0 ∷ 0 ∷ 0 ∷ 0 �
 abbrev pub writesInput : ℕ → List ℕ → Call served
 writesInput flags count = sends ((0x17 ∷ 0x00 ∷ 0x01 ∷ 0 ∷ 0 ∷ 0 ∷ 0 ∷ 0 ∷ 0 ∷ 0x01 ∷ 0xFF ∷ 0x00 ∷ 0x05 ∷ flags ∷ []) ++ count)
 
+-- a row of 31 records
+abbrev pub noPulses : List Pulse
+noPulses = replicate 31 (pulseOf 0 0 0)
+
 -- the box after power-up, connection 0 opened at rank 2, and these calls
 abbrev pub after : List (Call served) → Held
-after calls = ends settings (replicate 4 (replicate 3 0)) (replicate 4096 0) (other (connect 0 2) ∷ calls)
+after calls = ends settings (replicate 4 (replicate 3 0)) (replicate 4096 0) noPulses (other (connect 0 2) ∷ calls)
 
 -- what is asked of it: input 1's count, the relays (lowest bit channel 1), and whether Monitor is due on connection 0 (1) or not (0)
 abbrev pub count : List (Call served) → ℕ

@@ -66,9 +66,9 @@ fn tell(mut i: Input, on: bool) -> Input
     i
 }
 
-// Bit k of a byte, the lowest 0.
-fn bit(m: u8, k: usize) -> bool
-    requires { ⌜ k < 8 ⌝ }
+// Bit k, the lowest 0.
+fn bit(m: u16, k: usize) -> bool
+    requires { ⌜ k < 16 ⌝ }
     ensures { λ r. ⌜ r ≡ bitOf m k ⌝ }
 {
     (m >> k) % 2 == 1
@@ -78,10 +78,10 @@ fn bit(m: u8, k: usize) -> bool
 fn count_written(flags: u8, count: u64, was: u64) -> u64
     ensures { λ r. ⌜ r ≡ countWritten flags count was ⌝ }
 {
-    if bit(flags, 1) {
+    if bit(flags as u16, 1) {
         return count;
     }
-    if bit(flags, 0) {
+    if bit(flags as u16, 0) {
         return 0;
     }
     was
@@ -90,7 +90,11 @@ fn count_written(flags: u8, count: u64, was: u64) -> u64
 fn state_written(flags: u8, state: u8, was: bool) -> bool
     ensures { λ r. ⌜ r ≡ stateWritten flags state was ⌝ }
 {
-    if bit(flags, 0) { state == 1 } else { was }
+    if bit(flags as u16, 0) {
+        state == 1
+    } else {
+        was
+    }
 }
 
 fn usage_after(reset: bool, usage: u64) -> u64
@@ -103,7 +107,7 @@ fn input_written(mut i: Input, flags: u8, count: u64) -> Input
     ensures { λ r. ⌜ r ≡ inputWritten flags count i ⌝ }
 {
     i.count = count_written(flags, count, i.count);
-    i.usage = usage_after(bit(flags, 2), i.usage);
+    i.usage = usage_after(bit(flags as u16, 2), i.usage);
     i
 }
 
@@ -111,7 +115,7 @@ fn relay_written(mut r: Relay, flags: u8, state: u8) -> Relay
     ensures { λ n. ⌜ n ≡ relayWritten flags state r ⌝ }
 {
     r.closed = state_written(flags, state, r.closed);
-    r.usage = usage_after(bit(flags, 1), r.usage);
+    r.usage = usage_after(bit(flags as u16, 1), r.usage);
     r
 }
 
@@ -272,8 +276,8 @@ fn either(a: bool, b: bool) -> bool
     a || b
 }
 
-// Action 10: the masked relays take their state, the lowest bit channel 1.
-pub fn block(board: &mut [[u64; 8]; ROWS], mask: u8, state: u8) -> Changed
+// Action 10, and a pulse: the masked relays take their state, the lowest bit channel 1. The bits above the eighth name no relay.
+pub fn block(board: &mut [[u64; 8]; ROWS], mask: u16, state: u16) -> Changed
     ensures { λ r. ⌜ Makes (blockOf mask state (now (board .entry))) (now (board .exit)) r ⌝ }
 {
     let mut changed = false;
@@ -301,7 +305,7 @@ fn relay_fails(flags: u8, state: u8) -> bool
     if 3 < flags {
         return true;
     }
-    bit(flags, 0) && 1 < state
+    bit(flags as u16, 0) && 1 < state
 }
 
 // One entry of a WriteDevices message for relay k.

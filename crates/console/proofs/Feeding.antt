@@ -36,8 +36,8 @@ FedLine line b hs rooms reply b′ hs′ rooms′ reply′ r =
 
 module _ (line rooms : List ℕ) (b : Board) (hs : Halves) {reply : List ℕ} where
   pub line-fed : {b′ : Board} {hs′ : Halves} {rooms′ reply′ : List ℕ} {r : Done} (piece : List ℕ) → length reply ≡ 4096 → parsed line ≡ some piece
-      → Answers (bytesCall 0 piece (length reply) b hs rooms) b′ reply reply′ r
-      × ((hs′ ≡ halvesAfter 0 piece (length reply) b hs rooms) × (rooms′ ≡ roomsAfter 0 piece (length reply) b hs rooms))
+      → Answers (bytesCall 0 piece (length reply) 31 b hs rooms) b′ reply reply′ r
+      × ((hs′ ≡ halvesAfter 0 piece (length reply) 31 b hs rooms) × (rooms′ ≡ roomsAfter 0 piece (length reply) 31 b hs rooms))
       → FedLine line b hs rooms reply b′ hs′ rooms′ reply′ r
   unfolding lineCall lineHalves lineRooms offered halvesOffered roomsOffered
   line-fed piece l e a = rw e (rw l at a)

@@ -34,18 +34,18 @@ unfoldable pub startedHalves : Halves → Halves
 startedHalves hs = putHalf 0 start hs
 
 -- "A line is one piece, offered once; what that call does not take is dropped"; a line that is none "feeds nothing and prints FF", 255.
--- The reply buffer has 4,096 bytes.
+-- The reply buffer has 4,096 bytes; a row of 31 pulses is told, and none is kept, for no time passes here and none of its records is read.
 unfoldable pub offered : Option (List ℕ) → Board → Halves → List ℕ → Effect
 offered none b hs rooms = still (refused 255 b)
-offered (some piece) b hs rooms = bytesCall 0 piece 4096 b hs rooms
+offered (some piece) b hs rooms = bytesCall 0 piece 4096 31 b hs rooms
 
 unfoldable pub halvesOffered : Option (List ℕ) → Board → Halves → List ℕ → Halves
 halvesOffered none b hs rooms = hs
-halvesOffered (some piece) b hs rooms = halvesAfter 0 piece 4096 b hs rooms
+halvesOffered (some piece) b hs rooms = halvesAfter 0 piece 4096 31 b hs rooms
 
 unfoldable pub roomsOffered : Option (List ℕ) → Board → Halves → List ℕ → List ℕ
 roomsOffered none b hs rooms = rooms
-roomsOffered (some piece) b hs rooms = roomsAfter 0 piece 4096 b hs rooms
+roomsOffered (some piece) b hs rooms = roomsAfter 0 piece 4096 31 b hs rooms
 
 -- what a line does, and the halves and rooms after it: "a half-read message waits for the next line" in them
 unfoldable pub lineCall : List ℕ → Board → Halves → List ℕ → Effect

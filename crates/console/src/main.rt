@@ -127,6 +127,7 @@ fn parse(line: &[u8], out: &mut [u8; 1029]) -> Parsed
 }
 
 // One line's effect. The reply is written at the front of the reply buffer and goes nowhere: the console prints its answer number alone.
+// No time passes on the console, so that no record of a row of pulses is ever read: it tells a row's length and keeps none.
 fn feed_line(
     board: &mut [[u64; 8]; ROWS],
     halves: &mut [[u64; 3]; 4],
@@ -141,7 +142,15 @@ fn feed_line(
     let mut piece = [0u8; 1029];
     let p = parse(line, &mut piece);
     match p {
-        Parsed::Bytes(n) => board::bytes(board, halves, rooms, 0, &piece[..n], reply),
+        Parsed::Bytes(n) => board::done_of(board::bytes(
+            board,
+            halves,
+            rooms,
+            31,
+            0,
+            &piece[..n],
+            reply,
+        )),
         Parsed::Bad => Done {
             taken: 0,
             len: 0,

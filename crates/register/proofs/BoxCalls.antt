@@ -1,32 +1,46 @@
 -- The box's calls, each by itself: what a piece comes to, and what openings and closings do to each connection. Assumes nothing.
 use mathlib.Core.Path.{_≡_, refl, sym, _∙_}
-use mathlib.Core.Bool.{Bool, true, false, true≢false, cond}
+use mathlib.Core.Bool.{Bool, true, false, true≢false, cond, _||_}
 use mathlib.Core.List.{List, [], _∷_}
 use mathlib.Core.Option.{Option, none, some}
 use Prim.Native.Nat.{ℕ, zero, suc, _*_, _≤_}
 use native.Mathlib.Omega.{arith}
-use lib.Dec.{eqb}
-use lib.ListN.{length, set, drop, length-take}
+use native.Mathlib.Nat.{le-refl}
+use lib.Dec.{eqb, ltb}
+use lib.ListN.{length, set, drop, length-take, length-set}
+use borrow.Author.Tests.{le-ltb}
 use Rattle.laws.proofs.Put.{length-put}
 use Rattle.laws.proofs.Tests.{by-cases}
 use Rattle.framing.specs.Cut.{Got}
 use Rattle.framing.specs.Reading.{start, gotOf, halfAfter}
 use Rattle.framing.proofs.Turns.{length-run}
 use Rattle.rows.specs.Rows.{lineIn, lineWords, shutLine}
-use Rattle.rows.specs.Places.{Board, isConnection, rowAt, lineAt, putLine, linePlace}
+use Rattle.rows.specs.Places.{Board, isConnection, rowAt, lineAt, putLine, linePlace, queueOf}
+use Rattle.pulses.specs.declared.Pulse.{Pulse}
+use Rattle.pulses.specs.Pulses.{shortRow}
 use Rattle.plain.specs.Lines.{openedLine, isOpen}
 use Rattle.plain.specs.Events.{tooShort, connected, closed}
 use Rattle.board.specs.Halves.{Halves, halfAt, putHalf}
 use Rattle.board.specs.Rooms.{roomAt, putRoom}
-use Rattle.board.specs.Calls.{dropped, answered, fed, fedCall, bytesCall, halvesAfter, roomsAfter}
-use Rattle.register.specs.Box.{Reply, refusalOf}
+use Rattle.board.specs.Calls.{dropped, answered, fed, fedCall, bytesCall, halvesAfter, roomsAfter, rowAfter}
+use Rattle.register.specs.Box.{Reply, Tables, refusalOf}
 use Rattle.register.proofs.Cases.{bytes-cases, connect-cases, close-cases}
 use Rattle.register.proofs.Touching.{Touches, still, line-apart, message-touches}
 use Rattle.register.proofs.Halves.{half-apart, half-dropped, put-length, room-apart}
 
--- BYTES. A call that is not refused: the connection is open and the buffer long enough
-pub ready : (p : Board) (c room : ℕ) → refusalOf p c room ≡ none → (isOpen c p ≡ true) × (tooShort room ≡ false)
-ready p c room e = go (isOpen c p) (tooShort room) _ _ e
+-- THE ROW OF PULSES after a call: it has as many records as before, and is what it was where the queue is
+pub row-long : (b b′ : Board) (row : List Pulse) → length (rowAfter b b′ row) ≡ length row
+unfolding rowAfter
+row-long b b′ row = by-cases (ltb (queueOf b .standing) (queueOf b′ .standing)) (λ t. rw t (length-set row _ _)) (λ t. rw t)
+
+pub row-same : (b : Board) (row : List Pulse) → rowAfter b b row ≡ row
+unfolding rowAfter
+row-same b row = rw (le-ltb (queueOf b .standing) (queueOf b .standing) (le-refl (queueOf b .standing)))
+
+-- BYTES. A call that is not refused: the connection is open, the buffer and the row long enough
+pub ready : (t : Tables) (c room : ℕ) → refusalOf t c room ≡ none
+    → (isOpen c (t .board) ≡ true) × (tooShort room || shortRow (length (t .row)) ≡ false)
+ready t c room e = go (isOpen c (t .board)) (tooShort room || shortRow (length (t .row))) _ _ e
   where
     go : (o t : Bool) (shut short : Reply) → cond {A = Option Reply} o (cond t (some short) none) (some shut) ≡ none → (o ≡ true) × (t ≡ false)
     go true true shut short e = let z : _≡_ {A = ℕ} 0 1 = cc in absurd (omega arith)
@@ -34,46 +48,46 @@ ready p c room e = go (isOpen c p) (tooShort room) _ _ e
     go false t shut short e = let z : _≡_ {A = ℕ} 0 1 = cc in absurd (omega arith)
 
 -- then the piece is fed
-module _ (c room : ℕ) (piece : List ℕ) (b : Board) (hs : Halves) (rooms : List ℕ) (e : refusalOf b c room ≡ none) where
-  pub feeds-effect : bytesCall c piece room b hs rooms ≡ fedCall c (fed c piece hs rooms) b
+module _ (c room : ℕ) (piece : List ℕ) (t : Tables) (hs : Halves) (rooms : List ℕ) (e : refusalOf t c room ≡ none) where
+  pub feeds-effect : bytesCall c piece room (length (t .row)) (t .board) hs rooms ≡ fedCall c (fed c piece hs rooms) (t .board)
   unfolding bytesCall
-  feeds-effect = rw (ready b c room e .0, ready b c room e .1)
+  feeds-effect = rw (ready t c room e .0, ready t c room e .1)
 
-  pub feeds-halves : halvesAfter c piece room b hs rooms ≡ putHalf c (halfAfter (fed c piece hs rooms .fed .outcome)) hs
+  pub feeds-halves : halvesAfter c piece room (length (t .row)) (t .board) hs rooms ≡ putHalf c (halfAfter (fed c piece hs rooms .fed .outcome)) hs
   unfolding halvesAfter
-  feeds-halves = rw (ready b c room e .0, ready b c room e .1)
+  feeds-halves = rw (ready t c room e .0, ready t c room e .1)
 
-  pub feeds-rooms : roomsAfter c piece room b hs rooms ≡ putRoom c (fed c piece hs rooms .room) rooms
+  pub feeds-rooms : roomsAfter c piece room (length (t .row)) (t .board) hs rooms ≡ putRoom c (fed c piece hs rooms .room) rooms
   unfolding roomsAfter
-  feeds-rooms = rw (ready b c room e .0, ready b c room e .1)
+  feeds-rooms = rw (ready t c room e .0, ready t c room e .1)
 
-module _ (c room : ℕ) (piece : List ℕ) (b : Board) (hs : Halves) (rooms : List ℕ) where
+module _ (c room records : ℕ) (piece : List ℕ) (b : Board) (hs : Halves) (rooms : List ℕ) where
   -- what a piece leaves of the connections, refused or not
-  pub bytes-touches : Touches c b (bytesCall c piece room b hs rooms .did .board)
+  pub bytes-touches : Touches c b (bytesCall c piece room records b hs rooms .did .board)
   bytes-touches =
-      bytes-cases c room piece b hs rooms (λ e hs′ rs. Touches c b (e .did .board)) still still
+      bytes-cases c room records piece b hs rooms (λ e hs′ rs. Touches c b (e .did .board)) still still
       (λ v. ended (gotOf (fed c piece hs rooms .room) (fed c piece hs rooms .fed .outcome)))
     where
       ended : (o : Option Got) → Touches c b (answered c o b .board)
       ended none = still
       ended (some g) = message-touches c g b
 
-  pub bytes-halves : length (halvesAfter c piece room b hs rooms) ≡ length hs
-  bytes-halves = bytes-cases c room piece b hs rooms (λ e hs′ rs. length hs′ ≡ length hs) refl refl (λ v. put-length c _ hs)
+  pub bytes-halves : length (halvesAfter c piece room records b hs rooms) ≡ length hs
+  bytes-halves = bytes-cases c room records piece b hs rooms (λ e hs′ rs. length hs′ ≡ length hs) refl refl (λ v. put-length c _ hs)
 
-  pub bytes-rooms : length (roomsAfter c piece room b hs rooms) ≡ length rooms
-  bytes-rooms = bytes-cases c room piece b hs rooms (λ e hs′ rs. length rs ≡ length rooms) refl refl (λ v. length-put _ _ rooms)
+  pub bytes-rooms : length (roomsAfter c piece room records b hs rooms) ≡ length rooms
+  bytes-rooms = bytes-cases c room records piece b hs rooms (λ e hs′ rs. length rs ≡ length rooms) refl refl (λ v. length-put _ _ rooms)
 
   -- another connection keeps its half-read message and its room
-  pub bytes-half-apart : (d : ℕ) → eqb d c ≡ false → halfAt d (halvesAfter c piece room b hs rooms) ≡ halfAt d hs
-  bytes-half-apart d n = bytes-cases c room piece b hs rooms (λ e hs′ rs. halfAt d hs′ ≡ halfAt d hs) refl refl
+  pub bytes-half-apart : (d : ℕ) → eqb d c ≡ false → halfAt d (halvesAfter c piece room records b hs rooms) ≡ halfAt d hs
+  bytes-half-apart d n = bytes-cases c room records piece b hs rooms (λ e hs′ rs. halfAt d hs′ ≡ halfAt d hs) refl refl
       (λ v. half-apart d c (halfAfter (fed c piece hs rooms .fed .outcome)) hs n)
 
   pub room-short : length (fed c piece hs rooms .room) ≤ 1024
   room-short = omega (arith, length-run piece 0 (halfAt c hs) (roomAt c rooms), length-take 1024 (drop (c * 1024) rooms))
 
-  pub bytes-room-apart : (d : ℕ) → eqb d c ≡ false → roomAt d (roomsAfter c piece room b hs rooms) ≡ roomAt d rooms
-  bytes-room-apart d n = bytes-cases c room piece b hs rooms (λ e hs′ rs. roomAt d rs ≡ roomAt d rooms) refl refl
+  pub bytes-room-apart : (d : ℕ) → eqb d c ≡ false → roomAt d (roomsAfter c piece room records b hs rooms) ≡ roomAt d rooms
+  bytes-room-apart d n = bytes-cases c room records piece b hs rooms (λ e hs′ rs. roomAt d rs ≡ roomAt d rooms) refl refl
       (λ v. room-apart d c (fed c piece hs rooms .room) rooms room-short n)
 
 -- OPENINGS AND CLOSINGS

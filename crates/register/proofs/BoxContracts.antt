@@ -1,7 +1,8 @@
 -- The box of demand 3 is the entry points': whatever answer an entry point's own contract allows is the box's step.
 --     contract-power-up                                     the box begins as the entry point says
 --     contract-level, -pass, -connect, -close, -collect     an event's answer is the box's step
---     contract-bytes                                        a piece's answer, the rooms and the reply buffer after it are the box's step
+--     contract-bytes                                        a piece's answer, and all that is lent to it after the call, are the box's step
+-- Those of time and of bytes lend the row of pulses: their proofs are walks, which give a contract no name, so it is written out.
 -- A reply has at most 3,437 bytes (`answered-reply`, `monitor-reply`), so that the host reads it whole out of its buffer.
 -- Assumes nothing.
 use mathlib.Core.Path.{_≡_, refl, ap}
@@ -22,20 +23,21 @@ use Rattle.orders.specs.Orders.{orderOf}
 use Rattle.readings.specs.Readings.{monitorReply}
 use Rattle.readings.proofs.Lengths.{length-monitor}
 use Rattle.rows.specs.Places.{Board, lineAt}
+use Rattle.laws.proofs.Tests.{by-cases}
+use Rattle.pulses.specs.declared.Pulse.{Pulse}
+use Rattle.pulses.specs.Pulses.{shortRow}
 use Rattle.plain.specs.Events.{Did, framed, leveled, timePassed, connected, closed, monitorSent}
 use Rattle.serving.specs.Obeying.{obeyed}
 use Rattle.serving.specs.Serving.{servedContent, servedMessage}
 use Rattle.serving.proofs.Lengths as serving
 use Rattle.board.specs.Halves.{Halves}
 use Rattle.board.specs.declared.Done.{Done}
-use Rattle.board.specs.Calls.{Effect, Answers, answered, fed, levelCall, passCall, connectCall, closeCall, collectCall, bytesCall}
+use Rattle.board.specs.Calls.{Effect, Ends, Answers, answered, fed, levelCall, passCall, connectCall, closeCall, collectCall, bytesCall, halvesAfter, roomsAfter, rowAfter}
 use Rattle.board.proofs.power_up.Reads as power-up
 use Rattle.board.proofs.level.Reads as level
-use Rattle.board.proofs.pass.Reads as pass
 use Rattle.board.proofs.connect.Reads as connect
 use Rattle.board.proofs.close.Reads as close
 use Rattle.board.proofs.collect.Reads as collect
-use Rattle.board.proofs.bytes.Reads as bytes
 use Rattle.demand.specs.Demand as calls
 use Rattle.register.specs.Box as box
 use Rattle.register.specs.Box.{reply, replyOf, held, boxCall, saying, readOf, stepOf, atPowerUp}
@@ -71,14 +73,15 @@ module _ (c : ℕ) (p : Board) where
   monitor-reply = omega (arith, framed-length (monitorReply p), length-monitor p)
 
 -- of a call that lends a buffer, so it fits
-bytes-fits : (c : ℕ) (piece : List ℕ) (b : Board) (hs : Halves) (rooms o : List ℕ) → length (bytesCall c piece (length o) b hs rooms .did .reply) ≤ length o
-bytes-fits c piece b hs rooms o =
-    bytes-cases c (length o) piece b hs rooms (λ e hs′ rs. length (e .did .reply) ≤ length o) (omega arith) (omega arith)
+bytes-fits : (c records : ℕ) (piece : List ℕ) (b : Board) (hs : Halves) (rooms o : List ℕ)
+    → length (bytesCall c piece (length o) records b hs rooms .did .reply) ≤ length o
+bytes-fits c records piece b hs rooms o =
+    bytes-cases c (length o) records piece b hs rooms (λ e hs′ rs. length (e .did .reply) ≤ length o) (omega arith) (omega arith)
     (λ v. omega (
       arith,
       ltb-false (length o) 4096 v,
       answered-reply c b (fed c piece hs rooms .room) (fed c piece hs rooms .fed .outcome)
-          (room-short c (length o) piece b hs rooms),
+          (room-short c (length o) records piece b hs rooms),
     ))
 
 collect-fits : (c : ℕ) (b : Board) (o : List ℕ) → length (collectCall c (length o) b .did .reply) ≤ length o
@@ -96,61 +99,63 @@ unread : (d : Did) → d .reply ≡ [] → reply (d .answer) (take (length (d .r
 unread d e = rw e
 
 -- THE CONTRACTS. a holds the arguments in their order, r is the answer, s the arguments after the call
-pub contract-power-up : (κs : _) (a : _) (r : _) (s : _) → power-up.Post κs a r s → (hs : Halves) (rooms : List ℕ)
-    → held (now (s .0)) hs rooms ≡ atPowerUp (a .1 .0) hs rooms
-contract-power-up κs a r s p hs rooms = rw p
+pub contract-power-up : (κs : _) (a : _) (r : _) (s : _) → power-up.Post κs a r s → (hs : Halves) (rooms : List ℕ) (row : List Pulse)
+    → held (now (s .0)) hs rooms row ≡ atPowerUp (a .1 .0) hs rooms row
+contract-power-up κs a r s p hs rooms row = rw p
 
-pub contract-level : (κs : _) (a : _) (r : _) (s : _) → level.Post κs a r s → (hs : Halves) (rooms : List ℕ)
-    → boxCall (held (now (a .0)) hs rooms) (calls.other (box.level (a .1 .0) (a .1 .1 .0))) ≡ stepOf (now (s .0)) hs rooms r (calls.did (readOf r []))
+pub contract-level : (κs : _) (a : _) (r : _) (s : _) → level.Post κs a r s → (hs : Halves) (rooms : List ℕ) (row : List Pulse)
+    → boxCall (held (now (a .0)) hs rooms row) (calls.other (box.level (a .1 .0) (a .1 .1 .0))) ≡ stepOf (now (s .0)) hs rooms row r (calls.did (readOf r []))
 unfolding levelCall leveled
-contract-level κs a r s p hs rooms = rw (p .gives, p .board)
+contract-level κs a r s p hs rooms row = rw (p .gives, p .board)
 
-pub contract-pass : (κs : _) (a : _) (r : _) (s : _) → pass.Post κs a r s → (hs : Halves) (rooms : List ℕ)
-    → boxCall (held (now (a .0)) hs rooms) (calls.other (box.pass (a .1 .0))) ≡ stepOf (now (s .0)) hs rooms r (calls.did (readOf r []))
-unfolding passCall timePassed
-contract-pass κs a r s p hs rooms = rw (p .gives, p .board)
+time-silent : (d : ℕ) (row : List Pulse) (b : Board) → timePassed d row b .reply ≡ []
+unfolding timePassed
+time-silent d row b = by-cases (shortRow (length row)) (λ s. rw s) (λ s. rw s)
 
-pub contract-connect : (κs : _) (a : _) (r : _) (s : _) → connect.Post κs a r s → (rooms : List ℕ)
-    → boxCall (held (now (a .0)) (now (a .1 .0)) rooms) (calls.other (box.connect (a .1 .1 .0) (a .1 .1 .1 .0)))
-    ≡ stepOf (now (s .0)) (now (s .1 .0)) rooms r (calls.did (readOf r []))
+pub contract-pass : (d : ℕ) (row : List Pulse) (b b′ : Board) (r : Done) → Ends (passCall d row b) b′ r → (hs : Halves) (rooms : List ℕ)
+    → boxCall (held b hs rooms row) (calls.other (box.pass d)) ≡ stepOf b′ hs rooms row r (calls.did (readOf r []))
+unfolding passCall
+contract-pass d row b b′ r p hs rooms = rw (p .gives, p .board, unread (timePassed d row b) (time-silent d row b))
+
+pub contract-connect : (κs : _) (a : _) (r : _) (s : _) → connect.Post κs a r s → (rooms : List ℕ) (row : List Pulse)
+    → boxCall (held (now (a .0)) (now (a .1 .0)) rooms row) (calls.other (box.connect (a .1 .1 .0) (a .1 .1 .1 .0)))
+    ≡ stepOf (now (s .0)) (now (s .1 .0)) rooms row r (calls.did (readOf r []))
 unfolding connectCall
-contract-connect κs a r s p rooms =
+contract-connect κs a r s p rooms row =
     let b : Board = now (a .0) in
     let silent : connected (a .1 .1 .0) (a .1 .1 .1 .0) b .reply ≡ [] =
     connect-cases (a .1 .1 .0) b (a .1 .1 .1 .0) (λ d. d .reply ≡ []) refl refl refl (λ u. refl) in
     rw (p .1, p .0 .gives, p .0 .board, unread (connected (a .1 .1 .0) (a .1 .1 .1 .0) b) silent)
 
-pub contract-close : (κs : _) (a : _) (r : _) (s : _) → close.Post κs a r s → (rooms : List ℕ)
-    → boxCall (held (now (a .0)) (now (a .1 .0)) rooms) (calls.other (box.close (a .1 .1 .0)))
-    ≡ stepOf (now (s .0)) (now (s .1 .0)) rooms r (calls.did (readOf r []))
+pub contract-close : (κs : _) (a : _) (r : _) (s : _) → close.Post κs a r s → (rooms : List ℕ) (row : List Pulse)
+    → boxCall (held (now (a .0)) (now (a .1 .0)) rooms row) (calls.other (box.close (a .1 .1 .0)))
+    ≡ stepOf (now (s .0)) (now (s .1 .0)) rooms row r (calls.did (readOf r []))
 unfolding closeCall
-contract-close κs a r s p rooms =
+contract-close κs a r s p rooms row =
     let b : Board = now (a .0) in
     let silent : closed (a .1 .1 .0) b .reply ≡ [] = close-cases (a .1 .1 .0) b (λ d. d .reply ≡ []) refl (λ u. refl) in
     rw (p .1, p .0 .gives, p .0 .board, unread (closed (a .1 .1 .0) b) silent)
 
-pub contract-collect : (κs : _) (a : _) (r : _) (s : _) → collect.Post κs a r s → (hs : Halves) (rooms : List ℕ)
-    → boxCall (held (now (a .0)) hs rooms) (calls.other (box.collect (a .1 .0) (length (now (a .1 .1 .0)))))
-    ≡ stepOf (now (s .0)) hs rooms r (calls.did (readOf r (now (s .1 .1 .0))))
-contract-collect κs a r s p hs rooms =
+pub contract-collect : (κs : _) (a : _) (r : _) (s : _) → collect.Post κs a r s → (hs : Halves) (rooms : List ℕ) (row : List Pulse)
+    → boxCall (held (now (a .0)) hs rooms row) (calls.other (box.collect (a .1 .0) (length (now (a .1 .1 .0)))))
+    ≡ stepOf (now (s .0)) hs rooms row r (calls.did (readOf r (now (s .1 .1 .0))))
+contract-collect κs a r s p hs rooms row =
     let b : Board = now (a .0) in
     let o : List ℕ = now (a .1 .1 .0) in
     rw (read-back (collectCall (a .1 .0) (length o) b) (now (s .0)) o (now (s .1 .1 .0)) r p (collect-fits (a .1 .0) b o), p .gives, p .board)
 
-pub contract-bytes : (κs : _) (a : _) (r : _) (s : _) → bytes.Post κs a r s
-    → boxCall (held (now (a .0)) (now (a .1 .0)) (now (a .1 .1 .0))) (calls.bytes (a .1 .1 .1 .0) (length (now (a .1 .1 .1 .1 .1 .0))) (now (a .1 .1 .1 .1 .0)))
-    ≡ stepOf (now (s .0)) (now (s .1 .0)) (now (s .1 .1 .0)) r (saying (readOf r (now (s .1 .1 .1 .1 .1 .0))))
-contract-bytes κs a r s p =
-    let b : Board = now (a .0) in
-    let hs : Halves = now (a .1 .0) in
-    let rooms : List ℕ = now (a .1 .1 .0) in
-    let c : ℕ = a .1 .1 .1 .0 in
-    let piece : List ℕ = now (a .1 .1 .1 .1 .0) in
-    let o : List ℕ = now (a .1 .1 .1 .1 .1 .0) in
+-- of bytes: board, halves, rooms, row and reply buffer, before the call and after it
+pub contract-bytes : (c : ℕ) (piece : List ℕ) (b b′ : Board) (hs hs′ : Halves) (rooms rooms′ : List ℕ) (row row′ : List Pulse) (o o′ : List ℕ) (r : Done)
+    → Answers (bytesCall c piece (length o) (length row) b hs rooms) b′ o o′ r
+    → hs′ ≡ halvesAfter c piece (length o) (length row) b hs rooms → rooms′ ≡ roomsAfter c piece (length o) (length row) b hs rooms
+    → row′ ≡ rowAfter b (bytesCall c piece (length o) (length row) b hs rooms .did .board) row
+    → boxCall (held b hs rooms row) (calls.bytes c (length o) piece) ≡ stepOf b′ hs′ rooms′ row′ r (saying (readOf r o′))
+contract-bytes c piece b b′ hs hs′ rooms rooms′ row row′ o o′ r p halved roomed queued =
     rw (
-      read-back (bytesCall c piece (length o) b hs rooms) (now (s .0)) o (now (s .1 .1 .1 .1 .1 .0)) r (p .0) (bytes-fits c piece b hs rooms o),
-      p .0 .gives,
-      p .0 .board,
-      p .1 .0,
-      p .1 .1,
+      read-back (bytesCall c piece (length o) (length row) b hs rooms) b′ o o′ r p (bytes-fits c (length row) piece b hs rooms o),
+      p .gives,
+      p .board,
+      halved,
+      roomed,
+      queued,
     )

@@ -17,7 +17,9 @@ use lib.ListN.{length, take, replicate}
 use Rattle.rows.specs.Rows.{lineIn, shutLine}
 use Rattle.rows.specs.Places.{Board, isConnection, rowAt, lineAt, onRows, linePlace, firstInput, firstRelay, rows}
 use Rattle.rows.proofs.Range.{beyond}
+use Rattle.pulses.specs.declared.Pulse.{Pulse}
 use Rattle.plain.specs.Lines.{isOpen}
+use Rattle.serving.specs.Serving.{servedMessage}
 use Rattle.board.specs.declared.Settings.{Settings}
 use Rattle.board.specs.PowerUp.{poweredUp}
 use Rattle.board.specs.Halves.{Halves}
@@ -28,8 +30,9 @@ use Rattle.demand.proofs.Sending.{senders}
 use Rattle.demand.proofs.Following.{determined, drains}
 use Rattle.demand.proofs.Apart.{apart, untaken-unseen}
 use Rattle.demand.proofs.Pouring.{cut-anywhere}
-use Rattle.register.specs.Box.{served, Held, box, atPowerUp, refusalOf, ends, run, onlooker}
+use Rattle.register.specs.Box.{served, tables, Held, tablesOf, box, atPowerUp, refusalOf, ends, run, onlooker}
 use Rattle.register.proofs.Touching.{message-touches}
+use Rattle.register.proofs.BoxCalls.{row-long}
 use Rattle.register.proofs.BoxLawful.{Sound, only-open, box-meets}
 
 -- 01, What the box holds, 5: at power-up every connection is shut, so that nothing is half read
@@ -54,41 +57,42 @@ pub box-steady : Steady served
 box-steady =
     record {
       only-open = only-open;
-      same-open = λ p c g d. message-touches c g p .as-open d;
-      same-refusal = λ p c g d room. rw (message-touches c g p .as-open d);
+      same-open = λ t c g d. message-touches c g (t .board) .as-open d;
+      same-refusal = λ t c g d room. rw (message-touches c g (t .board) .as-open d, row-long (t .board) (servedMessage c g (t .board) .board) (t .row));
     }
 
-module _ (s : Settings) (hs : Halves) (rooms : List ℕ) (four : length hs ≡ 4) (long : length rooms ≡ 4096) where
-  sound-up : Sound (atPowerUp s hs rooms)
+module _ (s : Settings) (hs : Halves) (rooms : List ℕ) (row : List Pulse) (four : length hs ≡ 4) (long : length rooms ≡ 4096) where
+  sound-up : Sound (atPowerUp s hs rooms row)
   sound-up = record { four-halves = four; four-rooms = long }
 
-  pub box-demand-3 : (calls : List (Call served)) → Demand3 served box (atPowerUp s hs rooms) calls
-  box-demand-3 = box-meets (atPowerUp s hs rooms) sound-up (λ c o. absurd (true≢false (sym o ∙ all-shut s c)))
+  pub box-demand-3 : (calls : List (Call served)) → Demand3 served box (atPowerUp s hs rooms row) calls
+  box-demand-3 = box-meets (atPowerUp s hs rooms row) sound-up (λ c o. absurd (true≢false (sym o ∙ all-shut s c)))
 
-  pub box-senders : (calls : List (Call served)) → OffersFirst served (quiet served (onlooker s hs rooms)) (run s hs rooms calls)
-      → (c : ℕ) → AllHeard served (wires served (quiet served (onlooker s hs rooms)) (run s hs rooms calls)) c
-  box-senders calls = senders served (onlooker s hs rooms) (λ c. refl) (run s hs rooms calls)
+  pub box-senders : (calls : List (Call served)) → OffersFirst served (quiet served (onlooker s hs rooms row)) (run s hs rooms row calls)
+      → (c : ℕ) → AllHeard served (wires served (quiet served (onlooker s hs rooms row)) (run s hs rooms row calls)) c
+  box-senders calls = senders served (onlooker s hs rooms row) (λ c. refl) (run s hs rooms row calls)
 
-  pub box-drains : (before : List (Call served)) (c room : ℕ) (piece : List ℕ) → refusalOf (ends s hs rooms before .board) c room ≡ none
-      → remaining served box (length piece) (ends s hs rooms before) c room piece ≡ []
-  box-drains = drains served box box-steady (atPowerUp s hs rooms) box-demand-3
+  pub box-drains : (before : List (Call served)) (c room : ℕ) (piece : List ℕ) → refusalOf (tablesOf (ends s hs rooms row before)) c room ≡ none
+      → remaining served box (length piece) (ends s hs rooms row before) c room piece ≡ []
+  box-drains = drains served box box-steady (atPowerUp s hs rooms row) box-demand-3
 
-  pub box-apart : (d : ℕ) (calls : List (Call served)) → messagesOf served d (schedule served (onlooker s hs rooms) (run s hs rooms calls)) ≡ []
-      → (run s hs rooms (without (feedsTo served d) calls) ≡ without (λ a. feedsTo served d (a .0)) (run s hs rooms calls))
-      × (ends s hs rooms (without (feedsTo served d) calls) .board ≡ ends s hs rooms calls .board)
-  box-apart d = apart served d box (atPowerUp s hs rooms) box-demand-3
+  pub box-apart : (d : ℕ) (calls : List (Call served)) → messagesOf served d (schedule served (onlooker s hs rooms row) (run s hs rooms row calls)) ≡ []
+      → (run s hs rooms row (without (feedsTo served d) calls) ≡ without (λ a. feedsTo served d (a .0)) (run s hs rooms row calls))
+      × (tablesOf (ends s hs rooms row (without (feedsTo served d) calls)) ≡ tablesOf (ends s hs rooms row calls))
+  box-apart d = apart served d box (atPowerUp s hs rooms row) box-demand-3
 
   pub box-cut-anywhere : (xs ys : List (Handed served)) → map (uncut served) xs ≡ map (uncut served) ys
-      → (ends s hs rooms (handing served box (atPowerUp s hs rooms) xs) .board ≡ ends s hs rooms (handing served box (atPowerUp s hs rooms) ys) .board)
-      × (log served (run s hs rooms (handing served box (atPowerUp s hs rooms) xs)) ≡ log served
-      (run s hs rooms (handing served box (atPowerUp s hs rooms) ys)))
-  box-cut-anywhere = cut-anywhere served box-steady box (atPowerUp s hs rooms) box-demand-3
+      → (tablesOf (ends s hs rooms row (handing served box (atPowerUp s hs rooms row) xs))
+      ≡ tablesOf (ends s hs rooms row (handing served box (atPowerUp s hs rooms row) ys)))
+      × (log served (run s hs rooms row (handing served box (atPowerUp s hs rooms row) xs)) ≡ log served
+      (run s hs rooms row (handing served box (atPowerUp s hs rooms row) ys)))
+  box-cut-anywhere = cut-anywhere served box-steady box (atPowerUp s hs rooms row) box-demand-3
 
-  pub box-determined : (M : Machine served) (x : M .State) (calls : List (Call served)) → M .tables x ≡ poweredUp s → Demand3 served M x calls
-      → (trace served M x calls ≡ run s hs rooms calls) × (M .tables (final served M x calls) ≡ ends s hs rooms calls .board)
-  box-determined M x calls e D = determined served M box x (atPowerUp s hs rooms) calls e D (box-demand-3 calls)
+  pub box-determined : (M : Machine served) (x : M .State) (calls : List (Call served)) → M .tables x ≡ tables (poweredUp s) row → Demand3 served M x calls
+      → (trace served M x calls ≡ run s hs rooms row calls) × (M .tables (final served M x calls) ≡ tablesOf (ends s hs rooms row calls))
+  box-determined M x calls e D = determined served M box x (atPowerUp s hs rooms row) calls e D (box-demand-3 calls)
 
   pub box-untaken : (before : List (Call served)) (c room : ℕ) (piece : List ℕ)
-      → (let y : Held = ends s hs rooms before in
+      → (let y : Held = ends s hs rooms row before in
       box .call y (bytes c room (take (box .call y (bytes c room piece) .1 .taken) piece)) .1 ≡ box .call y (bytes c room piece) .1)
-  box-untaken = untaken-unseen served box (atPowerUp s hs rooms) box-demand-3
+  box-untaken = untaken-unseen served box (atPowerUp s hs rooms row) box-demand-3

@@ -1,6 +1,6 @@
 -- The box is a lawful machine: it feeds the framing, serves what ended, and keeps its connections apart. Assumes nothing.
 use mathlib.Core.Path.{_≡_, refl, sym, ap, _∙_}
-use mathlib.Core.Bool.{Bool, true, false, true≢false}
+use mathlib.Core.Bool.{Bool, true, false, true≢false, _||_}
 use mathlib.Core.List.{List}
 use mathlib.Core.Option.{Option, none, some}
 use Prim.Native.Nat.{ℕ, _<_}
@@ -14,25 +14,26 @@ use Rattle.framing.specs.Reading.{start, Run, gotOf, halfAfter}
 use Rattle.framing.proofs.Turns.{length-run}
 use Rattle.rows.specs.declared.Line.{Line}
 use Rattle.rows.specs.Places.{Board}
+use Rattle.pulses.specs.Pulses.{shortRow}
 use Rattle.plain.specs.Lines.{isOpen}
 use Rattle.plain.specs.Events as plain
-use Rattle.plain.specs.Events.{tooShort, connected, closed}
+use Rattle.plain.specs.Events.{Did, tooShort, connected, closed}
 use Rattle.serving.specs.Serving.{servedMessage}
 use Rattle.plain.proofs.Lines.{open-below}
 use Rattle.board.specs.Halves.{halfAt}
 use Rattle.board.specs.Rooms.{roomAt}
-use Rattle.board.specs.Calls.{answered, fed, levelCall, passCall, connectCall, closeCall, collectCall, bytesCall, halvesAfter, roomsAfter}
+use Rattle.board.specs.Calls.{answered, fed, levelCall, passCall, connectCall, closeCall, collectCall, bytesCall, halvesAfter, roomsAfter, rowAfter}
 use Rattle.board.proofs.Keeping as keeping
 use Rattle.board.proofs.Rooms.{room-long, room-again}
 use Rattle.demand.specs.Plain.{OnlyOpen}
-use Rattle.demand.specs.Demand.{refused, did, Call, bytes, other, feedsTo, answer, Meets}
+use Rattle.demand.specs.Demand.{refused, did, Call, bytes, other, feedsTo, Answer, answer, Meets}
 use Rattle.demand.specs.Lawful as lawful-spec
 use Rattle.demand.specs.Lawful.{Lawful, outside}
 use Rattle.demand.proofs.Meeting.{demand-3}
-use Rattle.register.specs.Box.{Event, level, pass, connect, close, collect, Reply, replyOf, refusing, refusalOf, served, Held, saying, boxCall, box}
+use Rattle.register.specs.Box.{Event, level, pass, connect, close, collect, Reply, replyOf, refusing, Tables, refusalOf, tablesAfter, served, Held, held, tablesOf, saying, boxCall, box}
 use Rattle.register.proofs.Touching.{unmarked-open, level-event, pass-event, collect-touches}
 use Rattle.register.proofs.Numbers.{Answering, message-judged, judged-answers}
-use Rattle.register.proofs.BoxCalls.{ready, feeds-effect, feeds-halves, feeds-rooms, bytes-touches, bytes-halves, bytes-rooms, bytes-half-apart, bytes-room-apart, dropped-apart, dropped-length, connect-apart, connect-keeps, connect-starts, close-shuts, close-apart}
+use Rattle.register.proofs.BoxCalls.{row-same, ready, feeds-effect, feeds-halves, feeds-rooms, bytes-touches, bytes-halves, bytes-rooms, bytes-half-apart, bytes-room-apart, dropped-apart, dropped-length, connect-apart, connect-keeps, connect-starts, close-shuts, close-apart}
 
 -- the lengths of the box's arrays
 pub record Sound (x : Held) : Type 0 where
@@ -49,8 +50,8 @@ openAt x c = isOpen c (x .board)
 stay-sound : (x : Held) (k : Call served) → Sound x → Sound (after x k)
 stay-sound x (bytes c room p) S =
     record {
-      four-halves = bytes-halves c room p (x .board) (x .halves) (x .rooms) ∙ S .four-halves;
-      four-rooms = bytes-rooms c room p (x .board) (x .halves) (x .rooms) ∙ S .four-rooms;
+      four-halves = bytes-halves c room (length (x .row)) p (x .board) (x .halves) (x .rooms) ∙ S .four-halves;
+      four-rooms = bytes-rooms c room (length (x .row)) p (x .board) (x .halves) (x .rooms) ∙ S .four-rooms;
     }
 stay-sound x (other (level k v)) S = record { four-halves = S .four-halves; four-rooms = S .four-rooms }
 stay-sound x (other (pass d)) S = record { four-halves = S .four-halves; four-rooms = S .four-rooms }
@@ -61,51 +62,56 @@ stay-sound x (other (close c)) S =
 stay-sound x (other (collect c room)) S = record { four-halves = S .four-halves; four-rooms = S .four-rooms }
 
 pub only-open : OnlyOpen served
-only-open p c room e = ready p c room e .0
+only-open t c room e = ready t c room e .0
 
 -- a refused piece changes nothing
-refuses : (x : Held) (c room : ℕ) (p : List ℕ) (a : Reply) → refusalOf (x .board) c room ≡ some a
+refuses : (x : Held) (c room : ℕ) (p : List ℕ) (a : Reply) → refusalOf (tablesOf x) c room ≡ some a
     → boxCall x (bytes c room p) ≡ (x, answer served 0 (refused a))
 unfolding bytesCall halvesAfter roomsAfter
-refuses x c room p a e = go (isOpen c (x .board)) (tooShort room) refl refl
+refuses x c room p a e = go (isOpen c (x .board)) (tooShort room || shortRow (length (x .row))) refl refl
   where
-    go : (o t : Bool) → isOpen c (x .board) ≡ o → tooShort room ≡ t → boxCall x (bytes c room p) ≡ (x, answer served 0 (refused a))
-    go true true u v = let f : some (refusing 4) ≡ some a = rw (u, v) at e in let g : refusing 4 ≡ a = cc in rw (u, v) (ap (λ r. (x, answer served 0 (refused r))) g)
+    kept : (r : Reply) → r ≡ a → _≡_ {A = Held × Answer served} (held (x .board) (x .halves) (x .rooms) (rowAfter (x .board) (x .board) (x .row)), answer served 0 (refused r))
+        (x, answer served 0 (refused a))
+    kept r g = rw (row-same (x .board) (x .row), g)
+
+    go : (o t : Bool) → isOpen c (x .board) ≡ o → tooShort room || shortRow (length (x .row)) ≡ t → boxCall x (bytes c room p) ≡ (x, answer served 0 (refused a))
+    go true true u v = let f : some (refusing 4) ≡ some a = rw (u, v) at e in let g : refusing 4 ≡ a = cc in rw (u, v) (kept (refusing 4) g)
     go true false u v = let f : none ≡ some a = rw (u, v) at e in let z : _≡_ {A = ℕ} 0 1 = cc in absurd (omega arith)
-    go false t u v = let f : some (refusing 3) ≡ some a = rw u at e in let g : refusing 3 ≡ a = cc in rw u (ap (λ r. (x, answer served 0 (refused r))) g)
+    go false t u v = let f : some (refusing 3) ≡ some a = rw u at e in let g : refusing 3 ≡ a = cc in rw u (kept (refusing 3) g)
 
 -- a message that ended is answered by its own number
 says : (r : Reply) → Answering (r .number) → saying r ≡ did r
 says r a = rw (a .0, a .1)
 
-answered-says : (p : Board) (c n : ℕ) (o : Option Got) → (answered c o p .board, answer served n (saying (replyOf (answered c o p))))
-    ≡ lawful-spec.fed served p c n o
-answered-says p c n none = refl
-answered-says p c n (some g) =
-    ap (λ s. (servedMessage c g p .board, answer served n s))
-    (says (replyOf (servedMessage c g p)) (judged-answers p (servedMessage c g p) (message-judged p c g)))
+answered-says : (t : Tables) (c n : ℕ) (o : Option Got)
+    → (tablesAfter t (answered c o (t .board)), answer served n (saying (replyOf (answered c o (t .board))))) ≡ lawful-spec.fed served t c n o
+answered-says t c n none = rw (row-same (t .board) (t .row))
+answered-says t c n (some g) =
+    let d : Did = servedMessage c g (t .board) in
+    ap (λ s. (tablesAfter t d, answer served n s)) (says (replyOf d) (judged-answers (t .board) d (message-judged (t .board) c g)))
 
-module _ (x : Held) (c room : ℕ) (p : List ℕ) (S : Sound x) (e : refusalOf (x .board) c room ≡ none) where
+module _ (x : Held) (c room : ℕ) (p : List ℕ) (S : Sound x) (e : refusalOf (tablesOf x) c room ≡ none) where
   abbrev ρ : Run
   ρ = fed c p (x .halves) (x .rooms)
 
   below : c < 4
-  below = open-below c (x .board) (ready (x .board) c room e .0)
+  below = open-below c (x .board) (ready (tablesOf x) c room e .0)
 
   room-size : length (ρ .room) ≡ 1024
   room-size = length-run p 0 (halfAt c (x .halves)) (roomAt c (x .rooms)) ∙ room-long c (x .rooms) below (omega (arith, S .four-rooms))
 
-  feeds : outside served box x (bytes c room p) ≡ lawful-spec.fed served (x .board) c (ρ .fed .taken) (gotOf (ρ .room) (ρ .fed .outcome))
-  feeds = rw (feeds-effect c room p (x .board) (x .halves) (x .rooms) e) (answered-says (x .board) c (ρ .fed .taken) (gotOf (ρ .room) (ρ .fed .outcome)))
+  feeds : outside served box x (bytes c room p) ≡ lawful-spec.fed served (tablesOf x) c (ρ .fed .taken) (gotOf (ρ .room) (ρ .fed .outcome))
+  feeds = rw (feeds-effect c room p (tablesOf x) (x .halves) (x .rooms) e) (answered-says (tablesOf x) c (ρ .fed .taken) (gotOf (ρ .room) (ρ .fed .outcome)))
 
   reads : (halfAt c (after x (bytes c room p) .halves) ≡ halfAfter (ρ .fed .outcome)) × (roomAt c (after x (bytes c room p) .rooms) ≡ ρ .room)
   reads = (
-    rw (feeds-halves c room p (x .board) (x .halves) (x .rooms) e) (keeping.reads c p (x .halves) (x .rooms) below (S .four-halves)),
-    rw (feeds-rooms c room p (x .board) (x .halves) (x .rooms) e) (room-again c (ρ .room) (x .rooms) below (omega (arith, S .four-rooms)) room-size),
+    rw (feeds-halves c room p (tablesOf x) (x .halves) (x .rooms) e) (keeping.reads c p (x .halves) (x .rooms) below (S .four-halves)),
+    rw (feeds-rooms c room p (tablesOf x) (x .halves) (x .rooms) e) (room-again c (ρ .room) (x .rooms) below (omega (arith, S .four-rooms)) room-size),
   )
 
 -- an event happens to the plain machine
-does : (x : Held) (e : Event) → outside served box x (other e) ≡ (served .happen (x .board) e .0, answer served 0 (did (served .happen (x .board) e .1)))
+does : (x : Held) (e : Event)
+    → outside served box x (other e) ≡ (served .happen (tablesOf x) e .0, answer served 0 (did (served .happen (tablesOf x) e .1)))
 unfolding levelCall passCall connectCall closeCall collectCall
 does x (level k v) = refl
 does x (pass d) = refl
@@ -133,14 +139,14 @@ keeps-event x (collect d room) c u w = (refl, refl)
 
 keeps : (x : Held) (k : Call served) (c : ℕ) → feedsTo served c k ≡ false → openAt x c ≡ true → openAt (after x k) c ≡ true → Keeps x k c
 keeps x (bytes d room p) c n u w =
-    (bytes-half-apart d room p (x .board) (x .halves) (x .rooms) c n, bytes-room-apart d room p (x .board) (x .halves) (x .rooms) c n)
+    (bytes-half-apart d room (length (x .row)) p (x .board) (x .halves) (x .rooms) c n, bytes-room-apart d room (length (x .row)) p (x .board) (x .halves) (x .rooms) c n)
 keeps x (other e) c n u w = keeps-event x e c u w
 
 -- one that is opened begins anew; nothing but an opening opens one
 opens-event : (x : Held) (e : Event) (c : ℕ) → openAt x c ≡ false → openAt (after x (other e)) c ≡ true → halfAt c (after x (other e) .halves) ≡ start
 unfolding levelCall passCall connectCall closeCall collectCall
 opens-event x (level k v) c u w = absurd (true≢false (sym w ∙ unmarked-open (level-event k v (x .board)) c ∙ u))
-opens-event x (pass d) c u w = absurd (true≢false (sym w ∙ unmarked-open (pass-event d (x .board)) c ∙ u))
+opens-event x (pass d) c u w = absurd (true≢false (sym w ∙ unmarked-open (pass-event d (x .row) (x .board)) c ∙ u))
 opens-event x (connect d rank) c u w = by-cases (eqb c d) same
     (λ n. absurd (true≢false (sym w ∙ ap (λ (l : Line). l .isOpen) (connect-apart d rank (x .board) c n) ∙ u)))
   where
@@ -153,7 +159,7 @@ opens-event x (close d) c u w = by-cases (eqb c d) same (λ n. absurd (true≢fa
 opens-event x (collect d room) c u w = absurd (true≢false (sym w ∙ collect-touches d room (x .board) .as-open c ∙ u))
 
 opens : (x : Held) (k : Call served) (c : ℕ) → openAt x c ≡ false → openAt (after x k) c ≡ true → halfAt c (after x k .halves) ≡ start
-opens x (bytes d room p) c u w = absurd (true≢false (sym w ∙ bytes-touches d room p (x .board) (x .halves) (x .rooms) .as-open c ∙ u))
+opens x (bytes d room p) c u w = absurd (true≢false (sym w ∙ bytes-touches d room (length (x .row)) p (x .board) (x .halves) (x .rooms) .as-open c ∙ u))
 opens x (other e) c u w = opens-event x e c u w
 
 pub lawful : Lawful served box

@@ -7,18 +7,18 @@ use mathlib.Core.List.{List, [], _∷_}
 use Prim.Native.Nat.{ℕ, zero, suc, _+_, _-_, _≤_, _<_, min, zero-le}
 use native.Mathlib.Omega.{arith}
 use lib.Dec.{eqb, ltb}
-use lib.ListN.{set, replicate}
+use lib.ListN.{length, set, replicate}
 use lib.Seq.{getD-set-other}
 use Rattle.laws.proofs.Tests.{by-cases}
 use Rattle.words.proofs.Laws.{Bytes, number-lt}
 use Rattle.framing.specs.Cut.{Got, keepAlive, stray, tooLong, frame}
 use Rattle.layouts.specs.declared.Order.{Order}
-use Rattle.layouts.specs.declared.Order.the-variants.{Refused, Clock, Monitor, Usage, MonitorOff, MonitorOn, SetClock, Close, Open, Toggle, ClearCount, ClearInputUsage, ClearRelayUsage, Block, Read, Write, Enumerate}
+use Rattle.layouts.specs.declared.Order.the-variants.{Refused, Clock, Monitor, Usage, MonitorOff, MonitorOn, SetClock, Close, Open, Toggle, ClearCount, ClearInputUsage, ClearRelayUsage, Block, PulseRelay, PulseBlock, Read, Write, Enumerate}
 use Rattle.rows.specs.declared.Input.{Input}
 use Rattle.rows.specs.declared.Relay.{Relay}
 use Rattle.rows.specs.declared.Line.{Line}
 use Rattle.rows.specs.Rows.{isOn, word, stateWord, usageWord, inputIn, lineIn, shutLine}
-use Rattle.rows.specs.Places.{Board, isChannel, isConnection, rowAt, inputAt, relayAt, putInput, putRelay, putLine, clockSet, onRows, inputPlace, relayPlace, linePlace, firstInput, firstRelay, firstLine, clockRow, rows, lineAt}
+use Rattle.rows.specs.Places.{Board, isChannel, isConnection, rowAt, inputAt, relayAt, putInput, putRelay, putLine, clockSet, onRows, inputPlace, relayPlace, linePlace, firstInput, firstRelay, firstLine, clockRow, queueRow, queueOf, rows, lineAt}
 use Rattle.rows.proofs.Channel.{in-range, channel}
 use Rattle.tables.specs.declared.Device.{Device}
 use Rattle.tables.specs.declared.Device.the-variants.{Din, Rout, Unknown}
@@ -33,14 +33,17 @@ use Rattle.orders.specs.declared.Entry.{Entry}
 use Rattle.orders.specs.Entries.{entryOf}
 use Rattle.orders.specs.Orders.{orderOf}
 use Rattle.writes.specs.Writes.{Entered, inputSizeFits, relaySizeFits, deviceDone, soFar, entryNoted, writtenFrom}
+use Rattle.pulses.specs.declared.Pulse.{Pulse}
+use Rattle.pulses.specs.Pulses.{pulseOf, relayPulse, shortRow, isFull}
+use Rattle.pulses.proofs.Keeping.{Keeps, elapsed-keeps, accepted-keeps}
 use Rattle.plain.specs.Lines.{openedLine}
-use Rattle.plain.specs.Marks.{watches, markedRow, marked}
+use Rattle.marks.specs.Marks.{watches, markedRow, marked}
 use Rattle.plain.specs.Events.{leveled, timePassed, monitorSent}
-use Rattle.serving.specs.Obeying.{monitorSet, clockTold, obeyed}
+use Rattle.serving.specs.Obeying.{monitorSet, clockTold, pulsed, obeyed}
 use Rattle.serving.specs.Serving.{servedContent, servedMessage}
 use Rattle.board.specs.declared.Settings.{Settings}
 use Rattle.board.specs.PowerUp.{poweredUp}
-use Rattle.register.specs.Box.{Event, level, pass, connect, close, collect, happens}
+use Rattle.register.specs.Box.{Event, level, pass, connect, close, collect, Tables, happens}
 use Rattle.register.specs.Laws.{CountsFit, InBytes}
 use Rattle.register.proofs.Cases.{frame-cases, connect-cases, close-cases, collect-cases}
 
@@ -126,6 +129,11 @@ changes : (from n : ℕ) (f : ℕ → List ℕ → List ℕ) (b : Board) → ((k
     → Fit (onRows from n f b)
 changes from n f b h e = record { row = λ j l. on-rows from n j f b h (e .row j l) }
 
+-- a row behind those of the inputs
+behind-fits : (n : ℕ) (r : List ℕ) (b : Board) → firstRelay ≤ n → Fit b → Fit (set b n r)
+behind-fits n r b h f =
+    record { row = λ j l. subst (λ (row : List ℕ). countIn row ≤ most) (sym (getD-set-other b n j r [] (λ e. omega arith))) (f .row j l) }
+
 -- ---- records
 
 module _ (b : Board) (f : Fit b) where
@@ -143,7 +151,7 @@ module _ (b : Board) (f : Fit b) where
 
   clock-fits : (v : ℕ) → Fit (clockSet v b)
   unfolding clockSet
-  clock-fits v = record { row = λ j l. subst (λ (row : List ℕ). countIn row ≤ most) (sym (getD-set-other b clockRow j _ [] (λ e. omega arith))) (f .row j l) }
+  clock-fits v = behind-fits clockRow _ b (omega arith) f
 
   -- ---- changes
 
@@ -191,18 +199,40 @@ written-fits content h at (suc n) w f =
 
 -- ---- events and messages
 
-event-fits : (e : Event) (b : Board) → Fit b → Fit (happens e b .board)
-unfolding leveled timePassed passed monitorSent
-event-fits (level k v) b f = marks-fit (levelOf k v b .board) (level-fits b f k v) (levelOf k v b .changed)
-event-fits (pass d) b f =
+time-fits : (d : ℕ) (b : Board) → Fit b → Fit (passed d b)
+unfolding passed
+time-fits d b f =
     let n : ℕ = clockRow - firstInput in
     clock-fits (onRows firstInput n (λ _. usagePassed d) b) (changes firstInput n (λ _. usagePassed d) b (λ k. usage-alone d) f) _
-event-fits (connect c rank) b f = connect-cases c b rank (λ d. Fit (d .board)) f f f (λ u. line-fits b f c (openedLine rank))
-event-fits (close c) b f = close-cases c b (λ d. Fit (d .board)) f (λ u. line-fits b f c shutLine)
-event-fits (collect c room) b f = collect-cases c b room (λ d. Fit (d .board)) f f f (λ v. line-fits b f c _)
+
+block-fits : (mask states : ℕ) (b : Board) → Fit b → Fit (blockOf mask states b .board)
+unfolding blockOf
+block-fits mask states b f = changes firstRelay 8 (blockedRow mask states) b (λ k. block-small mask states k) f
+
+pulses-fit : Keeps Fit
+pulses-fit =
+    record {
+      time = time-fits;
+      change = block-fits;
+      marks = λ changed b f. marks-fit b f changed;
+      store = λ row b. behind-fits queueRow row b (omega arith);
+    }
+
+pulsed-fits : (p : Pulse) (b : Board) → Fit b → Fit (pulsed p b .board)
+unfolding pulsed
+pulsed-fits p b f = by-cases (isFull (queueOf b)) (λ e. rw e f) (λ e. rw e (accepted-keeps pulses-fit p b f))
+
+event-fits : (e : Event) (t : Tables) → Fit (t .board) → Fit (happens e t .board)
+unfolding leveled timePassed monitorSent
+event-fits (level k v) t f = marks-fit (levelOf k v (t .board) .board) (level-fits (t .board) f k v) (levelOf k v (t .board) .changed)
+event-fits (pass d) t f =
+    by-cases (shortRow (length (t .row))) (λ s. rw s f) (λ s. rw s (elapsed-keeps pulses-fit (t .row) d (t .board) f))
+event-fits (connect c rank) t f = connect-cases c (t .board) rank (λ d. Fit (d .board)) f f f (λ u. line-fits (t .board) f c (openedLine rank))
+event-fits (close c) t f = close-cases c (t .board) (λ d. Fit (d .board)) f (λ u. line-fits (t .board) f c shutLine)
+event-fits (collect c room) t f = collect-cases c (t .board) room (λ d. Fit (d .board)) f f f (λ v. line-fits (t .board) f c _)
 
 obeyed-fits : (c : ℕ) (s : List ℕ) → Bytes s → (o : Order) (b : Board) → Fit b → Fit (obeyed c s o b .board)
-unfolding obeyed monitorSet clockTold blockOf
+unfolding obeyed monitorSet clockTold
 obeyed-fits c s h (Refused n) b f = f
 obeyed-fits c s h Clock b f = f
 obeyed-fits c s h Monitor b f = f
@@ -216,7 +246,9 @@ obeyed-fits c s h (Toggle k) b f = marks-fit _ (on-relay b f _ k) _
 obeyed-fits c s h (ClearCount k) b f = marks-fit _ (on-input b f _ k (λ q. zero-le)) _
 obeyed-fits c s h (ClearInputUsage k) b f = marks-fit _ (on-input b f _ k (λ q. q)) _
 obeyed-fits c s h (ClearRelayUsage k) b f = marks-fit _ (on-relay b f _ k) _
-obeyed-fits c s h (Block mask state) b f = marks-fit _ (changes firstRelay 8 (blockedRow mask state) b (λ k. block-small mask state k) f) _
+obeyed-fits c s h (Block mask state) b f = marks-fit _ (block-fits mask state b f) _
+obeyed-fits c s h (PulseRelay k ms) b f = pulsed-fits (relayPulse k ms) b f
+obeyed-fits c s h (PulseBlock mask states ms) b f = pulsed-fits (pulseOf mask states ms) b f
 obeyed-fits c s h (Read n) b f = f
 obeyed-fits c s h (Write n) b f = marks-fit _ (written-fits s h 3 n (soFar b 0 false) f) _
 obeyed-fits c s h (Enumerate flags) b f = f
@@ -240,8 +272,8 @@ counts-at-power-up s =
     zeros (suc n) zero = refl
     zeros (suc n) (suc j) = zeros n j
 
-pub counts-after-event : (e : Event) (b : Board) → CountsFit b → CountsFit (happens e b .board)
-counts-after-event e b f = inputs-fit (event-fits e b (rows-fit f))
+pub counts-after-event : (e : Event) (t : Tables) → CountsFit (t .board) → CountsFit (happens e t .board)
+counts-after-event e t f = inputs-fit (event-fits e t (rows-fit f))
 
 pub counts-after-message : (c : ℕ) (g : Got) (b : Board) → InBytes g → CountsFit b → CountsFit (servedMessage c g b .board)
 counts-after-message c g b h f = inputs-fit (message-fits c g b h (rows-fit f))

@@ -1,6 +1,6 @@
 -- The named laws of demand 2, over the definitions that the entry points' contracts cite.
 --     clock-alone          a Set clock message changes the clock and nothing else
---     refused-untouched    an answer 3 to 13 leaves every word of the board as it was, and sends nothing
+--     refused-untouched    an answer 3 to 14 leaves every word of the board as it was, and sends nothing
 --     refused-event        a refused event changes nothing at all
 --     refused-piece        a piece that is refused before any byte, with 3 or 4, changes nothing at all
 --     time-adds            d ms in one call are d calls of 1 ms
@@ -19,29 +19,31 @@ use borrow.Author.Tests.{ne-eqb, eqb-false}
 use Rattle.laws.specs.Times.{times}
 use Rattle.laws.specs.Put.{put}
 use Rattle.laws.proofs.Put.{put-none}
+use Rattle.laws.proofs.Tests.{by-cases}
 use Rattle.words.specs.Words.{numberAt}
 use Rattle.framing.specs.Cut.{Got, frame}
 use Rattle.framing.specs.Reading.{Run, gotOf}
 use Rattle.rows.specs.Rows.{word}
 use Rattle.rows.specs.Places.{Board, rowAt, lineAt, clockSet, clockRow}
-use Rattle.tables.proofs.Theorems as tables
+use Rattle.pulses.specs.declared.Pulse.{Pulse}
+use Rattle.pulses.specs.Pulses.{shortRow, elapsed}
 use Rattle.layouts.specs.declared.Order.{Order}
 use Rattle.layouts.specs.declared.Order.the-variants.{Refused, SetClock}
 use Rattle.layouts.specs.Layouts.{judgeSetClock}
 use Rattle.orders.specs.Orders.{setClockOf, orderOf}
-use Rattle.plain.specs.Lines.{withDue}
+use Rattle.marks.specs.Marks.{withDue}
 use Rattle.plain.specs.Events.{Did, did, refused, leveled, timePassed, connected, closed, monitorSent, collected}
 use Rattle.serving.specs.Obeying.{clockTold, obeyed}
 use Rattle.serving.specs.Serving.{servedContent, servedMessage}
 use Rattle.board.specs.Halves.{Halves, halfAt}
-use Rattle.board.specs.Calls.{dropped, answered, fed, levelCall, passCall, connectCall, closeCall, collectCall, bytesCall}
+use Rattle.board.specs.Calls.{dropped, answered, fed, levelCall, passCall, connectCall, closeCall, collectCall, bytesCall, rowAfter}
 use Rattle.demand.specs.Demand.{Call, bytes, other}
-use Rattle.register.specs.Box.{Event, level, pass, connect, close, collect, happens, served, beforeBytes, Held, held, eventCall, effectOf, halvesOf, boxCall}
+use Rattle.register.specs.Box.{Event, level, pass, connect, close, collect, Tables, happens, served, beforeBytes, Held, held, tablesOf, eventCall, effectOf, halvesOf, boxCall}
 use Rattle.register.specs.Laws.{TypeSeven, ButClock, Untouched, eventOn, callOn, Kept}
 use Rattle.register.proofs.Cases.{frame-cases, bytes-cases, connect-cases, close-cases, collect-cases}
 use Rattle.register.proofs.Touching.{level-event, pass-event, collect-touches}
 use Rattle.register.proofs.Numbers.{Judged, serves, refuses, level-judged, message-judged, judged-answers}
-use Rattle.register.proofs.BoxCalls.{bytes-touches, bytes-half-apart, bytes-room-apart, dropped-apart, connect-apart, close-apart}
+use Rattle.register.proofs.BoxCalls.{row-same, bytes-touches, bytes-half-apart, bytes-room-apart, dropped-apart, connect-apart, close-apart}
 
 -- CLOCK ALONE. What a content of type 7 orders: the clock, or nothing
 data ForClock : Order → Type 0 where
@@ -86,16 +88,20 @@ clock-message c sum s b h =
     frame-cases c sum s b (λ d. ButClock b (d .board)) (clock-obeyed c s (orderOf s rank) b (seven-orders s rank h)) (untimed b)
 
 -- a piece at whose end such a frame stands, on any board and any connection
-pub clock-alone : (b : Board) (hs : Halves) (rooms : List ℕ) (c room : ℕ) (piece : List ℕ) (sum : ℕ) (content : List ℕ) → TypeSeven content
+pub clock-alone : (b : Board) (hs : Halves) (rooms : List ℕ) (c room records : ℕ) (piece : List ℕ) (sum : ℕ) (content : List ℕ) → TypeSeven content
     → gotOf (fed c piece hs rooms .room) (fed c piece hs rooms .fed .outcome) ≡ some (frame sum content)
-    → ButClock b (bytesCall c piece room b hs rooms .did .board)
-clock-alone b hs rooms c room piece sum content h e =
-    bytes-cases c room piece b hs rooms (λ a hs′ rs. ButClock b (a .did .board)) (untimed b) (untimed b) (λ v. rw e (clock-message c sum content b h))
+    → ButClock b (bytesCall c piece room records b hs rooms .did .board)
+clock-alone b hs rooms c room records piece sum content h e =
+    bytes-cases c room records piece b hs rooms (λ a hs′ rs. ButClock b (a .did .board)) (untimed b) (untimed b) (λ v. rw e (clock-message c sum content b h))
 
--- TIME ADDS
-pub time-adds : (d : ℕ) (b : Board) → passCall d b .did .board ≡ times d (λ (a : Board). passCall 1 a .did .board) b
-unfolding passCall timePassed
-time-adds d b = tables.time-adds d b
+-- TIME ADDS, pulses and marks with it
+pub time-adds : (d : ℕ) (row : List Pulse) (b : Board) → passCall d row b .did .board ≡ times d (λ (a : Board). passCall 1 row a .did .board) b
+unfolding passCall timePassed elapsed
+time-adds d row b = by-cases (shortRow (length row)) (λ s. rw s (sym (nothing-passes d))) (λ s. rw s)
+  where
+    nothing-passes : (n : ℕ) → times n (λ (a : Board). a) b ≡ b
+    nothing-passes zero = refl
+    nothing-passes (suc n) = nothing-passes n
 
 -- REFUSED, UNTOUCHED. What was refused is known by its number
 abbrev RefusedSo : Board → Did → Type 0
@@ -120,30 +126,37 @@ module _ (p : Board) where
   answered-so c none h = absurd (omega arith)
   answered-so c (some g) h = judged-so (servedMessage c g p) (message-judged p c g) h
 
-event-so : (e : Event) (p : Board) → RefusedSo p (happens e p)
+pass-so : (d : ℕ) (row : List Pulse) (p : Board) → RefusedSo p (timePassed d row p)
 unfolding timePassed
-event-so (level k v) p = judged-so p (leveled k v p) (level-judged p k v)
-event-so (pass d) p = λ h. absurd (omega arith)
-event-so (connect c rank) p = connect-so p c rank
-event-so (close c) p = close-so p c
-event-so (collect c room) p = collect-so p c room
+pass-so d row p = go (shortRow (length row))
+  where
+    go : (s : Bool) → RefusedSo p (cond s (refused 4 p) (did (elapsed row d p) 1 []))
+    go true = λ h. refl
+    go false = λ h. absurd (omega arith)
 
-event-did : (e : Event) (b : Board) → eventCall e b .did ≡ happens e b
+event-so : (e : Event) (t : Tables) → RefusedSo (t .board) (happens e t)
+event-so (level k v) t = judged-so (t .board) (leveled k v (t .board)) (level-judged (t .board) k v)
+event-so (pass d) t = pass-so d (t .row) (t .board)
+event-so (connect c rank) t = connect-so (t .board) c rank
+event-so (close c) t = close-so (t .board) c
+event-so (collect c room) t = collect-so (t .board) c room
+
+event-did : (e : Event) (x : Held) → eventCall e x .did ≡ happens e (tablesOf x)
 unfolding levelCall passCall connectCall closeCall collectCall
-event-did (level k v) b = refl
-event-did (pass d) b = refl
-event-did (connect c rank) b = refl
-event-did (close c) b = refl
-event-did (collect c room) b = refl
+event-did (level k v) x = refl
+event-did (pass d) x = refl
+event-did (connect c rank) x = refl
+event-did (close c) x = refl
+event-did (collect c room) x = refl
 
-bytes-so : (c room : ℕ) (piece : List ℕ) (b : Board) (hs : Halves) (rooms : List ℕ) → RefusedSo b (bytesCall c piece room b hs rooms .did)
-bytes-so c room piece b hs rooms =
-    bytes-cases c room piece b hs rooms (λ e hs′ rs. RefusedSo b (e .did)) (λ h. refl) (λ h. refl)
+bytes-so : (c room records : ℕ) (piece : List ℕ) (b : Board) (hs : Halves) (rooms : List ℕ) → RefusedSo b (bytesCall c piece room records b hs rooms .did)
+bytes-so c room records piece b hs rooms =
+    bytes-cases c room records piece b hs rooms (λ e hs′ rs. RefusedSo b (e .did)) (λ h. refl) (λ h. refl)
     (λ v. answered-so b c (gotOf (fed c piece hs rooms .room) (fed c piece hs rooms .fed .outcome)))
 
 call-so : (x : Held) (k : Call served) → RefusedSo (x .board) (effectOf x k .did)
-call-so x (bytes c room piece) = bytes-so c room piece (x .board) (x .halves) (x .rooms)
-call-so x (other e) = rw (event-did e (x .board)) (event-so e (x .board))
+call-so x (bytes c room piece) = bytes-so c room (length (x .row)) piece (x .board) (x .halves) (x .rooms)
+call-so x (other e) = rw (event-did e x) (event-so e (tablesOf x))
 
 pub refused-untouched : (x : Held) (k : Call served) → 3 ≤ effectOf x k .did .answer → Untouched (x .board) (effectOf x k)
 refused-untouched x k h =
@@ -164,7 +177,7 @@ halves-stay x (close c) h = not-dropped c (closed c (x .board) .answer) (x .halv
 halves-stay x (collect c room) h = refl
 
 pub refused-event : (x : Held) (e : Event) → 3 ≤ effectOf x (other e) .did .answer → boxCall x (other e) .0 ≡ x
-refused-event x e h = λ i. held (refused-untouched x (other e) h .board i) (halves-stay x e h i) (x .rooms)
+refused-event x e h = λ i. held (refused-untouched x (other e) h .board i) (halves-stay x e h i) (x .rooms) (x .row)
 
 -- a message's number, or that nothing ended, is neither 3 nor 4
 not-refused : (p : Board) (c : ℕ) (o : Option Got) → beforeBytes (answered c o p .answer) ≡ false
@@ -174,8 +187,9 @@ not-refused p c (some g) = judged-answers p (servedMessage c g p) (message-judge
 pub refused-piece : (x : Held) (c room : ℕ) (piece : List ℕ) → beforeBytes (effectOf x (bytes c room piece) .did .answer) ≡ true
     → boxCall x (bytes c room piece) .0 ≡ x
 refused-piece x c room piece =
-    bytes-cases c room piece (x .board) (x .halves) (x .rooms) (λ e hs rs. beforeBytes (e .did .answer) ≡ true → held (e .did .board) hs rs ≡ x)
-    (λ h. refl) (λ h. refl)
+    bytes-cases c room (length (x .row)) piece (x .board) (x .halves) (x .rooms)
+    (λ e hs rs. beforeBytes (e .did .answer) ≡ true → held (e .did .board) hs rs (rowAfter (x .board) (e .did .board) (x .row)) ≡ x)
+    (λ h. rw (row-same (x .board) (x .row))) (λ h. rw (row-same (x .board) (x .row)))
     (λ v h. absurd (true≢false (sym h ∙ not-refused (x .board) c (gotOf (ρ .room) (ρ .fed .outcome)))))
   where
     ρ : Run
@@ -185,15 +199,15 @@ refused-piece x c room piece =
 pub others-kept : (x : Held) (k : Call served) (d : ℕ) → callOn d k ≡ false → Kept d x (boxCall x k .0)
 others-kept x (bytes c room piece) d n =
     record {
-      half = bytes-half-apart c room piece (x .board) (x .halves) (x .rooms) d n;
-      room = bytes-room-apart c room piece (x .board) (x .halves) (x .rooms) d n;
-      line = bytes-touches c room piece (x .board) (x .halves) (x .rooms) .others d n;
+      half = bytes-half-apart c room (length (x .row)) piece (x .board) (x .halves) (x .rooms) d n;
+      room = bytes-room-apart c room (length (x .row)) piece (x .board) (x .halves) (x .rooms) d n;
+      line = bytes-touches c room (length (x .row)) piece (x .board) (x .halves) (x .rooms) .others d n;
     }
-others-kept x (other e) d n = record { half = half-of e n; room = refl; line = rw (event-did e (x .board)) (line-of e n) }
+others-kept x (other e) d n = record { half = half-of e n; room = refl; line = rw (event-did e x) (line-of e n) }
   where
-    line-of : (e : Event) → eventOn d e ≡ false → withDue false (lineAt d (happens e (x .board) .board)) ≡ withDue false (lineAt d (x .board))
+    line-of : (e : Event) → eventOn d e ≡ false → withDue false (lineAt d (happens e (tablesOf x) .board)) ≡ withDue false (lineAt d (x .board))
     line-of (level k v) n = level-event k v (x .board) .at d
-    line-of (pass m) n = pass-event m (x .board) .at d
+    line-of (pass m) n = pass-event m (x .row) (x .board) .at d
     line-of (connect c rank) n = ap (withDue false) (connect-apart c rank (x .board) d n)
     line-of (close c) n = ap (withDue false) (close-apart c (x .board) d n)
     line-of (collect c room) n = collect-touches c room (x .board) .others d n

@@ -1,6 +1,7 @@
 pub mod Cases
 pub mod Touching
 pub mod Numbers
+pub mod Queue
 pub mod Halves
 pub mod BoxCalls
 pub mod BoxLawful

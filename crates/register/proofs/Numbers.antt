@@ -6,21 +6,24 @@ use mathlib.Core.Bool.{Bool, true, false, cond}
 use mathlib.Core.List.{List}
 use Prim.Native.Nat.{ℕ}
 use lib.Dec.{eqb, ltb}
+use Rattle.laws.proofs.Tests.{by-cases}
 use Rattle.framing.specs.Cut.{Got, keepAlive, stray, tooLong, frame}
 use Rattle.rows.specs.declared.Input.{Input}
 use Rattle.rows.specs.declared.Relay.{Relay}
-use Rattle.rows.specs.Places.{Board, isChannel, lineAt}
+use Rattle.rows.specs.Places.{Board, isChannel, lineAt, queueOf}
+use Rattle.pulses.specs.declared.Pulse.{Pulse}
+use Rattle.pulses.specs.Pulses.{pulseOf, relayPulse, isFull}
 use Rattle.changes.specs.Answers as tables
 use Rattle.changes.specs.Answers.{onInput, onRelay}
 use Rattle.changes.specs.Levels.{told, hasLevel, levelOf}
 use Rattle.changes.specs.Commands.{blockOf}
 use Rattle.layouts.specs.declared.Order.{Order}
-use Rattle.layouts.specs.declared.Order.the-variants.{Refused, Clock, Monitor, Usage, MonitorOff, MonitorOn, SetClock, Close, Open, Toggle, ClearCount, ClearInputUsage, ClearRelayUsage, Block, Read, Write, Enumerate}
+use Rattle.layouts.specs.declared.Order.the-variants.{Refused, Clock, Monitor, Usage, MonitorOff, MonitorOn, SetClock, Close, Open, Toggle, ClearCount, ClearInputUsage, ClearRelayUsage, Block, PulseRelay, PulseBlock, Read, Write, Enumerate}
 use Rattle.orders.specs.Orders.{orderOf}
 use Rattle.orders.proofs.Orders.{Refusal, refusals}
-use Rattle.plain.specs.Marks.{marked}
+use Rattle.marks.specs.Marks.{marked}
 use Rattle.plain.specs.Events.{Did, refused, changedTo, leveled, sealing}
-use Rattle.serving.specs.Obeying.{monitorSet, clockTold, obeyed}
+use Rattle.serving.specs.Obeying.{monitorSet, clockTold, pulsed, obeyed}
 use Rattle.serving.specs.Serving.{servedContent, servedMessage}
 use Rattle.register.specs.Box.{beforeBytes}
 use Rattle.register.proofs.Cases.{frame-cases}
@@ -63,6 +66,10 @@ module _ (p : Board) where
       go false true = serves refl
       go false false = on-input (told (eqb v 1)) k
 
+  pulse-judged : (q : Pulse) → Judged p (pulsed q p)
+  unfolding pulsed
+  pulse-judged q = by-cases (isFull (queueOf p)) (λ e. rw e (refuses 14 (refl, refl))) (λ e. rw e (serves refl))
+
   module _ (c : ℕ) (s : List ℕ) where
     obeyed-judged : (o : Order) → ((n : ℕ) → o ≡ Refused n → Refusal n) → Judged p (obeyed c s o p)
     unfolding obeyed monitorSet clockTold blockOf
@@ -80,6 +87,8 @@ module _ (p : Board) where
     obeyed-judged (ClearInputUsage k) r = on-input _ k
     obeyed-judged (ClearRelayUsage k) r = on-relay _ k
     obeyed-judged (Block mask state) r = serves refl
+    obeyed-judged (PulseRelay k ms) r = pulse-judged (relayPulse k ms)
+    obeyed-judged (PulseBlock mask states ms) r = pulse-judged (pulseOf mask states ms)
     obeyed-judged (Read n) r = serves refl
     obeyed-judged (Write n) r = serves refl
     obeyed-judged (Enumerate flags) r = serves refl

@@ -7,18 +7,18 @@ use mathlib.Core.Bool.{Bool, true, false, cond}
 use mathlib.Core.List.{List, [], _∷_}
 use Prim.Native.Nat.{ℕ, zero, suc, _+_, _-_, _≤_, _<_}
 use native.Mathlib.Omega.{arith}
-use borrow.Author.Tests.{eqb-false}
+use borrow.Author.Tests.{eqb-false, ltb-true}
 use lib.Dec.{eqb, ltb}
-use lib.ListN.{set}
+use lib.ListN.{length, set}
 use lib.Seq.{getD-set-other}
 use Rattle.laws.proofs.Tests.{by-cases}
 use Rattle.framing.specs.Cut.{Got, keepAlive, stray, tooLong, frame}
 use Rattle.layouts.specs.declared.Order.{Order}
-use Rattle.layouts.specs.declared.Order.the-variants.{Refused, Clock, Monitor, Usage, MonitorOff, MonitorOn, SetClock, Close, Open, Toggle, ClearCount, ClearInputUsage, ClearRelayUsage, Block, Read, Write, Enumerate}
+use Rattle.layouts.specs.declared.Order.the-variants.{Refused, Clock, Monitor, Usage, MonitorOff, MonitorOn, SetClock, Close, Open, Toggle, ClearCount, ClearInputUsage, ClearRelayUsage, Block, PulseRelay, PulseBlock, Read, Write, Enumerate}
 use Rattle.rows.specs.declared.Input.{Input}
 use Rattle.rows.specs.declared.Relay.{Relay}
 use Rattle.rows.specs.declared.Line.{Line}
-use Rattle.rows.specs.Places.{Board, isChannel, isConnection, rowAt, inputAt, relayAt, lineAt, putInput, putRelay, putLine, clockSet, onRows, inputPlace, relayPlace, linePlace, firstInput, firstRelay, firstLine, clockRow}
+use Rattle.rows.specs.Places.{Board, isChannel, isConnection, rowAt, inputAt, relayAt, lineAt, putInput, putRelay, putLine, clockSet, onRows, inputPlace, relayPlace, linePlace, firstInput, firstRelay, firstLine, clockRow, queueRow, queueOf}
 use Rattle.rows.specs.Rows.{lineIn, lineWords, shutLine}
 use Rattle.rows.proofs.Channel.{in-range}
 use Rattle.rows.proofs.Range.{beyond}
@@ -35,10 +35,13 @@ use Rattle.orders.specs.declared.Entry.{Entry}
 use Rattle.orders.specs.Entries.{entryOf}
 use Rattle.orders.specs.Orders.{orderOf}
 use Rattle.writes.specs.Writes.{Entered, inputSizeFits, relaySizeFits, deviceDone, soFar, entryNoted, writtenFrom}
-use Rattle.plain.specs.Lines.{withDue, isOpen}
-use Rattle.plain.specs.Marks.{watches, markedRow, marked}
+use Rattle.pulses.specs.declared.Pulse.{Pulse}
+use Rattle.pulses.specs.Pulses.{pulseOf, relayPulse, shortRow, isFull}
+use Rattle.pulses.proofs.Keeping.{Keeps, elapsed-keeps, accepted-keeps}
+use Rattle.plain.specs.Lines.{isOpen}
+use Rattle.marks.specs.Marks.{withDue, watches, markedRow, marked}
 use Rattle.plain.specs.Events.{leveled, timePassed, monitorSent, collected}
-use Rattle.serving.specs.Obeying.{monitorSet, clockTold, obeyed}
+use Rattle.serving.specs.Obeying.{monitorSet, clockTold, pulsed, obeyed}
 use Rattle.serving.specs.Serving.{servedContent, servedMessage}
 use Rattle.register.proofs.Cases.{frame-cases, collect-cases}
 
@@ -75,14 +78,10 @@ abbrev unmarked : List ℕ → Line
 unmarked row = withDue false (lineIn row)
 
 -- what a connection's row says is what is said of the connection
-by-rows : {A : Type 0} (g : Line → A) (b b′ : Board) → ((d : ℕ) → g (lineIn (rowAt (linePlace d) b′)) ≡ g (lineIn (rowAt (linePlace d) b)))
-    → (d : ℕ) → g (lineAt d b′) ≡ g (lineAt d b)
+by-rows : {A : Type 0} (g : Line → A) (b b′ : Board)
+    → ((d : ℕ) → d < 4 → g (lineIn (rowAt (linePlace d) b′)) ≡ g (lineIn (rowAt (linePlace d) b))) → (d : ℕ) → g (lineAt d b′) ≡ g (lineAt d b)
 unfolding lineAt
-by-rows g b b′ e d = go (isConnection d)
-  where
-    go : (t : Bool) → g (cond t (lineIn (rowAt (linePlace d) b′)) shutLine) ≡ g (cond t (lineIn (rowAt (linePlace d) b)) shutLine)
-    go true = e d
-    go false = refl
+by-rows g b b′ e d = by-cases (isConnection d) (λ t. rw t (e d (ltb-true d 4 t))) (λ t. rw t)
 
 -- it stays where each change of a row leaves it
 set-same-by : {A : Type 0} (g : List ℕ → A) (b : Board) (n j : ℕ) (r : List ℕ) → g r ≡ g (rowAt n b) → g (rowAt j (set b n r)) ≡ g (rowAt j b)
@@ -102,21 +101,25 @@ rows-same-by g zero (suc n) (suc j) f (row ∷ b) h = rows-same-by g zero n j (�
 rows-same-by g (suc from) n zero f (row ∷ b) h = refl
 rows-same-by g (suc from) n (suc j) f (row ∷ b) h = rows-same-by g from n j f b h
 
-store : (n : ℕ) (b : Board) (r : List ℕ) → n < firstLine → Unmarked b (set b n r)
-store n b r h = record { at = by-rows (withDue false) b (set b n r) (λ d. ap unmarked (getD-set-other b n (linePlace d) r [] (λ e. omega arith))) }
+-- a row that is no connection's
+store : (n : ℕ) (b : Board) (r : List ℕ) → ((d : ℕ) → d < 4 → linePlace d ≡ n → ⊥) → Unmarked b (set b n r)
+store n b r h = record { at = by-rows (withDue false) b (set b n r) (λ d l. ap unmarked (getD-set-other b n (linePlace d) r [] (h d l))) }
+
+before-lines : (n : ℕ) → n < firstLine → (d : ℕ) → d < 4 → linePlace d ≡ n → ⊥
+before-lines n h d l e = omega arith
 
 change : (from n : ℕ) (f : ℕ → List ℕ → List ℕ) (b : Board) → from + n ≤ firstLine → Unmarked b (onRows from n f b)
-change from n f b h = record { at = by-rows (withDue false) b (onRows from n f b) (λ d. ap unmarked (beyond from n (linePlace d) f b (omega arith))) }
+change from n f b h = record { at = by-rows (withDue false) b (onRows from n f b) (λ d l. ap unmarked (beyond from n (linePlace d) f b (omega arith))) }
 
 -- ---- records
 
 input-stays : (k : ℕ) (i : Input) (b : Board) → Unmarked b (putInput k i b)
 unfolding putInput
-input-stays k i b = by-cases (isChannel k) (λ h. rw h (store (inputPlace k) b _ (omega (arith, in-range k refl h)))) (λ h. rw h (same b))
+input-stays k i b = by-cases (isChannel k) (λ h. rw h (store (inputPlace k) b _ (before-lines (inputPlace k) (omega (arith, in-range k refl h))))) (λ h. rw h (same b))
 
 relay-stays : (k : ℕ) (r : Relay) (b : Board) → Unmarked b (putRelay k r b)
 unfolding putRelay
-relay-stays k r b = by-cases (isChannel k) (λ h. rw h (store (relayPlace k) b _ (omega (arith, in-range k refl h)))) (λ h. rw h (same b))
+relay-stays k r b = by-cases (isChannel k) (λ h. rw h (store (relayPlace k) b _ (before-lines (relayPlace k) (omega (arith, in-range k refl h))))) (λ h. rw h (same b))
 
 line-open : (c : ℕ) (b : Board) → isConnection c ≡ true → lineAt c b .isOpen ≡ opened (rowAt (linePlace c) b)
 unfolding lineAt
@@ -136,7 +139,7 @@ line-apart c d l b n =
 -- another connection in c's place, which is as open as c was
 line-as-open : (c : ℕ) (l : Line) (b : Board) → l .isOpen ≡ lineAt c b .isOpen → (d : ℕ) → isOpen d (putLine c l b) ≡ isOpen d b
 unfolding putLine
-line-as-open c l b e d = by-cases (isConnection c) (λ h. rw h (by-rows (λ x. x .isOpen) b _ (row h) d)) (λ h. rw h)
+line-as-open c l b e d = by-cases (isConnection c) (λ h. rw h (by-rows (λ x. x .isOpen) b _ (λ d l. row h d) d)) (λ h. rw h)
   where
     row : isConnection c ≡ true → (d : ℕ) → opened (rowAt (linePlace d) (set b (linePlace c) (lineWords l))) ≡ opened (rowAt (linePlace d) b)
     row h d = set-same-by opened b (linePlace c) (linePlace d) (lineWords l) (flag-again (l .isOpen) ∙ e ∙ line-open c b h)
@@ -146,7 +149,7 @@ line-touches c l b e = record { as-open = line-as-open c l b e; others = λ d n.
 
 clock-stays : (v : ℕ) (b : Board) → Unmarked b (clockSet v b)
 unfolding clockSet
-clock-stays v b = store clockRow b _ (omega arith)
+clock-stays v b = store clockRow b _ (before-lines clockRow (omega arith))
 
 -- ---- changes
 
@@ -189,7 +192,7 @@ mark-alone row = by-cases (watches (lineIn row)) (λ h. rw h (ap (withDue false)
 marked-stays : (changed : Bool) (b : Board) → Unmarked b (marked changed b)
 unfolding marked
 marked-stays true b =
-    record { at = by-rows (withDue false) b _ (λ d. rows-same-by unmarked firstLine 4 (linePlace d) (λ _. markedRow) b (λ k. mark-alone)) }
+    record { at = by-rows (withDue false) b _ (λ d l. rows-same-by unmarked firstLine 4 (linePlace d) (λ _. markedRow) b (λ k. mark-alone)) }
 marked-stays false b = same b
 
 -- a change, and the marks that follow
@@ -202,11 +205,34 @@ pub level-event : (k v : ℕ) (b : Board) → Unmarked b (leveled k v b .board)
 unfolding leveled
 level-event k v b = follows (levelOf k v b .changed) b (levelOf k v b .board) (level-stays k v b)
 
-pub pass-event : (d : ℕ) (b : Board) → Unmarked b (timePassed d b .board)
-unfolding timePassed passed
-pass-event d b =
+passed-stays : (d : ℕ) (b : Board) → Unmarked b (passed d b)
+unfolding passed
+passed-stays d b =
     let n : ℕ = clockRow - firstInput in
     then (change firstInput n (λ _. usagePassed d) b (omega arith)) (clock-stays _ (onRows firstInput n (λ _. usagePassed d) b))
+
+block-stays : (mask states : ℕ) (b : Board) → Unmarked b (blockOf mask states b .board)
+unfolding blockOf
+block-stays mask states b = change firstRelay 8 (blockedRow mask states) b (omega arith)
+
+-- pulses leave the connections as all they are made of does
+pulses-stay : (b : Board) → Keeps (Unmarked b)
+pulses-stay b =
+    record {
+      time = λ d z e. then e (passed-stays d z);
+      change = λ mask states z e. then e (block-stays mask states z);
+      marks = λ changed z e. then e (marked-stays changed z);
+      store = λ row z e. then e (store queueRow z row (λ d l q. omega arith));
+    }
+
+pub pass-event : (d : ℕ) (row : List Pulse) (b : Board) → Unmarked b (timePassed d row b .board)
+unfolding timePassed
+pass-event d row b =
+    by-cases (shortRow (length row)) (λ s. rw s (same b)) (λ s. rw s (elapsed-keeps (pulses-stay b) row d b (same b)))
+
+pulsed-stays : (p : Pulse) (b : Board) → Unmarked b (pulsed p b .board)
+unfolding pulsed
+pulsed-stays p b = by-cases (isFull (queueOf b)) (λ f. rw f (same b)) (λ f. rw f (accepted-keeps (pulses-stay b) p b (same b)))
 
 pub collect-touches : (c room : ℕ) (b : Board) → Touches c b (collected c room b .board)
 unfolding monitorSent
@@ -219,7 +245,7 @@ makes : {c : ℕ} (changed : Bool) (b b′ : Board) → Unmarked b b′ → Touc
 makes changed b b′ e = quiet (follows changed b b′ e)
 
 obeyed-touches : (c : ℕ) (s : List ℕ) (o : Order) (b : Board) → Touches c b (obeyed c s o b .board)
-unfolding obeyed monitorSet clockTold blockOf
+unfolding obeyed monitorSet clockTold
 obeyed-touches c s (Refused n) b = still
 obeyed-touches c s Clock b = still
 obeyed-touches c s Monitor b = still
@@ -233,7 +259,9 @@ obeyed-touches c s (Toggle k) b = makes _ b _ (on-relay _ k b)
 obeyed-touches c s (ClearCount k) b = makes _ b _ (on-input _ k b)
 obeyed-touches c s (ClearInputUsage k) b = makes _ b _ (on-input _ k b)
 obeyed-touches c s (ClearRelayUsage k) b = makes _ b _ (on-relay _ k b)
-obeyed-touches c s (Block mask state) b = makes _ b _ (change firstRelay 8 (blockedRow mask state) b (omega arith))
+obeyed-touches c s (Block mask state) b = makes _ b _ (block-stays mask state b)
+obeyed-touches c s (PulseRelay k ms) b = quiet (pulsed-stays (relayPulse k ms) b)
+obeyed-touches c s (PulseBlock mask states ms) b = quiet (pulsed-stays (pulseOf mask states ms) b)
 obeyed-touches c s (Read n) b = still
 obeyed-touches c s (Write n) b = makes _ b _ (written-stays s 3 n (soFar b 0 false))
 obeyed-touches c s (Enumerate flags) b = still

@@ -11,11 +11,9 @@ use Rattle.plain.specs.Calls.{Gives, Does}
 use Rattle.plain.proofs.no_reply.Reads as no-reply
 use Rattle.plain.proofs.replied.Reads as replied
 use Rattle.plain.proofs.is_open.Reads as is-open
-use Rattle.plain.proofs.mark.Reads as mark
 use Rattle.plain.proofs.after.Reads as after
 use Rattle.plain.proofs.seal.Reads as seal
 use Rattle.plain.proofs.level.Reads as level
-use Rattle.plain.proofs.pass.Reads as pass
 use Rattle.plain.proofs.connect.Reads as connect
 use Rattle.plain.proofs.close.Reads as close
 use Rattle.plain.proofs.collect.Reads as collect
@@ -36,10 +34,7 @@ unique-plain-replied κs a r r′ s s′ p q = p ∙ sym q
 pub unique-plain-is-open : (κs : _) (a : _) (r r′ : _) (s s′ : _) → is-open.Post κs a r s → is-open.Post κs a r′ s′ → r ≡ r′
 unique-plain-is-open κs a r r′ s s′ p q = p ∙ sym q
 
-pub unique-plain-mark : (κs : _) (a : _) (r r′ : _) (s s′ : _) → mark.Post κs a r s → mark.Post κs a r′ s′ → now (s .0) ≡ now (s′ .0)
-unique-plain-mark κs a r r′ s s′ p q = p ∙ sym q
-
-pub unique-plain-after : (κs : _) (a : _) (r r′ : _) (s s′ : _) → after.Post κs a r s → after.Post κs a r′ s′ → (r ≡ r′) × (now (s .0) ≡ now (s′ .0))
+pub unique-plain-after : (κs : _) (a : _) (r r′ : _) (s s′ : _) → after.Post κs a r s → after.Post κs a r′ s′ → (r ≡ r′) × (now (s .1 .0) ≡ now (s′ .1 .0))
 unique-plain-after κs a r r′ s s′ p q = (p .1 ∙ sym (q .1), p .0 ∙ sym (q .0))
 
 pub unique-plain-seal : (κs : _) (a : _) (r r′ : _) (s s′ : _) → seal.Post κs a r s → seal.Post κs a r′ s′ → (r ≡ r′) × (now (s .1 .0) ≡ now (s′ .1 .0))
@@ -47,9 +42,6 @@ unique-plain-seal κs a r r′ s s′ p q = (p .0 ∙ sym (q .0), p .1 ∙ sym (
 
 pub unique-plain-level : (κs : _) (a : _) (r r′ : _) (s s′ : _) → level.Post κs a r s → level.Post κs a r′ s′ → (r ≡ r′) × (now (s .0) ≡ now (s′ .0))
 unique-plain-level κs a r r′ s s′ p q = gives p q
-
-pub unique-plain-pass : (κs : _) (a : _) (r r′ : _) (s s′ : _) → pass.Post κs a r s → pass.Post κs a r′ s′ → (r ≡ r′) × (now (s .0) ≡ now (s′ .0))
-unique-plain-pass κs a r r′ s s′ p q = gives p q
 
 pub unique-plain-connect : (κs : _) (a : _) (r r′ : _) (s s′ : _) → connect.Post κs a r s → connect.Post κs a r′ s′ → (r ≡ r′) × (now (s .0) ≡ now (s′ .0))
 unique-plain-connect κs a r r′ s s′ p q = gives p q

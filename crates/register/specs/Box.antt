@@ -5,16 +5,18 @@ use mathlib.Core.List.{List, []}
 use mathlib.Core.Option.{Option, none, some}
 use Prim.Native.Nat.{ℕ}
 use lib.Dec.{eqb}
-use lib.ListN.{take}
+use lib.ListN.{length, take}
 use Rattle.plain.specs.Lines.{isOpen}
 use Rattle.plain.specs.Events.{Did, tooShort, leveled, timePassed, connected, closed, collected}
 use Rattle.serving.specs.Serving.{servedMessage}
 use Rattle.rows.specs.Places.{Board}
+use Rattle.pulses.specs.declared.Pulse.{Pulse}
+use Rattle.pulses.specs.Pulses.{shortRow}
 use Rattle.board.specs.Halves.{Halves}
 use Rattle.board.specs.declared.Done.{Done}
 use Rattle.board.specs.declared.Settings.{Settings}
 use Rattle.board.specs.PowerUp.{poweredUp}
-use Rattle.board.specs.Calls.{Effect, doneOf, levelCall, passCall, connectCall, closeCall, collectCall, bytesCall, dropped, halvesAfter, roomsAfter}
+use Rattle.board.specs.Calls.{Effect, doneOf, levelCall, passCall, connectCall, closeCall, collectCall, bytesCall, dropped, halvesAfter, roomsAfter, rowAfter}
 use Rattle.demand.specs.Plain.{Serving}
 use Rattle.demand.specs.Demand.{Said, waits, refused, did, Call, bytes, other, Answer, answer, Machine, Trace, View, final, trace, begins}
 
@@ -37,21 +39,30 @@ reply n bs = record { number = n; sent = bs }
 abbrev pub replyOf : Did → Reply
 replyOf d = reply (d .answer) (d .reply)
 
--- "Numbers 3 to 13 write no reply."
+-- 01, Answer numbers, under the table, and 02, M-100, 7: numbers 3 to 14 write no reply
 abbrev pub refusing : ℕ → Reply
 refusing n = reply n []
 
--- 3 "connection not 0 to 3, or not open", then 4 "reply buffer under 4,096"; room is its length
-abbrev pub refusalOf : Board → ℕ → ℕ → Option Reply
-refusalOf p c room = cond (isOpen c p) (cond (tooShort room) (some (refusing 4)) none) (some (refusing 3))
+-- 02, M-100, 5 and 6: all that the plain machine holds is the lent board and, beside it, the lent row of waiting pulses
+pub record Tables : Type 0 where
+  pub board : Board
+  pub row : List Pulse
 
--- what each event does to the plain machine
-abbrev pub happens : Event → Board → Did
-happens (level k v) = leveled k v
-happens (pass d) = timePassed d
-happens (connect c rank) = connected c rank
-happens (close c) = closed c
-happens (collect c room) = collected c room
+abbrev pub tables : Board → List Pulse → Tables
+tables b row = record { board = b; row = row }
+
+-- 3 "connection not 0 to 3, or not open", then 4 "reply buffer under 4,096", room is its length; 02, M-100, 5: 4 also for a row under 31
+abbrev pub refusalOf : Tables → ℕ → ℕ → Option Reply
+refusalOf t c room =
+    cond (isOpen c (t .board)) (cond (tooShort room || shortRow (length (t .row))) (some (refusing 4)) none) (some (refusing 3))
+
+-- what each event does to the plain machine; 02, M-100, 6: the end of a pulse belongs to the time event in which it falls
+abbrev pub happens : Event → Tables → Did
+happens (level k v) t = leveled k v (t .board)
+happens (pass d) t = timePassed d (t .row) (t .board)
+happens (connect c rank) t = connected c rank (t .board)
+happens (close c) t = closed c (t .board)
+happens (collect c room) t = collected c room (t .board)
 
 -- "Collect: if Monitor is due, write one Monitor message": the other events' replies are for no connection
 abbrev pub collector : Event → Option ℕ
@@ -61,40 +72,52 @@ collector (connect c rank) = none
 collector (close c) = none
 collector (collect c room) = some c
 
--- THE PLAIN MACHINE of the box: its tables are the lent board, all of it, and it serves whole messages by demand 2
+-- what a message or an event leaves of the tables: only a message adds a record to the row
+abbrev pub tablesAfter : Tables → Did → Tables
+tablesAfter t d = tables (d .board) (rowAfter (t .board) (d .board) (t .row))
+
+abbrev pub boardAfter : Tables → Did → Tables
+boardAfter t d = tables (d .board) (t .row)
+
+-- THE PLAIN MACHINE of the box: its tables are the lent board and row, all of them, and it serves whole messages by demand 2
 abbrev pub served : Serving
 served =
     record {
-      Tables = Board;
+      Tables = Tables;
       Event = Event;
       Lent = ℕ;
       Reply = Reply;
       limit = 1024;
-      isOpen = λ p c. isOpen c p;
+      isOpen = λ t c. isOpen c (t .board);
       refusal = refusalOf;
-      serve = λ p c g. (servedMessage c g p .board, replyOf (servedMessage c g p));
-      happen = λ p e. (happens e p .board, replyOf (happens e p));
+      serve = λ t c g. (tablesAfter t (servedMessage c g (t .board)), replyOf (servedMessage c g (t .board)));
+      happen = λ t e. (boardAfter t (happens e t), replyOf (happens e t));
       replyTo = collector;
     }
 
--- THE BOX, as its host has it: all that the host lends, the same in every call and altered by nobody else
+-- THE BOX, as its host has it: all that the host lends, the same in every call and altered by nobody else; 02, M-100, 6: so the row of
+-- pulses too, which the host is presumed not to alter
 pub record Held : Type 0 where
   pub board : Board
   pub halves : Halves
   pub rooms : List ℕ
+  pub row : List Pulse
 
-abbrev pub held : Board → Halves → List ℕ → Held
-held b hs rs = record { board = b; halves = hs; rooms = rs }
+abbrev pub held : Board → Halves → List ℕ → List Pulse → Held
+held b hs rs row = record { board = b; halves = hs; rooms = rs; row = row }
+
+abbrev pub tablesOf : Held → Tables
+tablesOf x = tables (x .board) (x .row)
 
 -- what each event's entry point comes to
-abbrev pub eventCall : Event → Board → Effect
-eventCall (level k v) = levelCall k v
-eventCall (pass d) = passCall d
-eventCall (connect c rank) = connectCall c rank
-eventCall (close c) = closeCall c
-eventCall (collect c room) = collectCall c room
+abbrev pub eventCall : Event → Held → Effect
+eventCall (level k v) x = levelCall k v (x .board)
+eventCall (pass d) x = passCall d (x .row) (x .board)
+eventCall (connect c rank) x = connectCall c rank (x .board)
+eventCall (close c) x = closeCall c (x .board)
+eventCall (collect c room) x = collectCall c room (x .board)
 
--- 3 "connection not 0 to 3, or not open", 4 "reply buffer under 4,096": the numbers that refuse a piece before any byte
+-- 3 "connection not 0 to 3, or not open", 4 "reply buffer under 4,096" or a row under 31: the numbers that refuse a piece before any byte
 abbrev pub beforeBytes : ℕ → Bool
 beforeBytes n = eqb n 3 || eqb n 4
 
@@ -104,12 +127,12 @@ saying r = cond (eqb (r .number) 0) waits (cond (beforeBytes (r .number)) (refus
 
 -- what a call comes to, by the definition that its entry point's contract cites
 abbrev pub effectOf : Held → Call served → Effect
-effectOf x (bytes c room piece) = bytesCall c piece room (x .board) (x .halves) (x .rooms)
-effectOf x (other e) = eventCall e (x .board)
+effectOf x (bytes c room piece) = bytesCall c piece room (length (x .row)) (x .board) (x .halves) (x .rooms)
+effectOf x (other e) = eventCall e x
 
 -- the half-read messages after it: a piece, an opening and a closing touch them
 abbrev pub halvesOf : Held → Call served → Halves
-halvesOf x (bytes c room piece) = halvesAfter c piece room (x .board) (x .halves) (x .rooms)
+halvesOf x (bytes c room piece) = halvesAfter c piece room (length (x .row)) (x .board) (x .halves) (x .rooms)
 halvesOf x (other (level k v)) = x .halves
 halvesOf x (other (pass d)) = x .halves
 halvesOf x (other (connect c rank)) = dropped c (connected c rank (x .board) .answer) (x .halves)
@@ -118,8 +141,13 @@ halvesOf x (other (collect c room)) = x .halves
 
 -- the rooms after it: only a piece touches them
 abbrev pub roomsOf : Held → Call served → List ℕ
-roomsOf x (bytes c room piece) = roomsAfter c piece room (x .board) (x .halves) (x .rooms)
+roomsOf x (bytes c room piece) = roomsAfter c piece room (length (x .row)) (x .board) (x .halves) (x .rooms)
 roomsOf x (other e) = x .rooms
+
+-- the row of pulses after it: only a message adds to it; time reads it
+abbrev pub rowOf : Held → Call served → List Pulse
+rowOf x (bytes c room piece) = rowAfter (x .board) (effectOf x (bytes c room piece) .did .board) (x .row)
+rowOf x (other e) = x .row
 
 -- every event is answered, refused or not
 abbrev pub saidOf : Call served → Reply → Said Reply
@@ -129,29 +157,29 @@ saidOf (other e) r = did r
 abbrev pub boxCall : Held → Call served → Held × Answer served
 boxCall x k =
     let e : Effect = effectOf x k in
-    (held (e .did .board) (halvesOf x k) (roomsOf x k), answer served (doneOf e .taken) (saidOf k (replyOf (e .did))))
+    (held (e .did .board) (halvesOf x k) (roomsOf x k) (rowOf x k), answer served (doneOf e .taken) (saidOf k (replyOf (e .did))))
 
 abbrev pub box : Machine served
-box = record { State = Held; tables = λ x. x .board; call = boxCall }
+box = record { State = Held; tables = tablesOf; call = boxCall }
 
--- the box at power-up, with the half-read messages and rooms that the host lends, whatever stands in them
-abbrev pub atPowerUp : Settings → Halves → List ℕ → Held
-atPowerUp s hs rooms = held (poweredUp s) hs rooms
+-- the box at power-up, with the half-read messages, rooms and row that the host lends, whatever stands in them
+abbrev pub atPowerUp : Settings → Halves → List ℕ → List Pulse → Held
+atPowerUp s hs rooms row = held (poweredUp s) hs rooms row
 
 -- a run of it: where it ends, each call with its answer, and the onlooker's view when it begins
-abbrev pub ends : Settings → Halves → List ℕ → List (Call served) → Held
-ends s hs rooms calls = final served box (atPowerUp s hs rooms) calls
+abbrev pub ends : Settings → Halves → List ℕ → List Pulse → List (Call served) → Held
+ends s hs rooms row calls = final served box (atPowerUp s hs rooms row) calls
 
-abbrev pub run : Settings → Halves → List ℕ → List (Call served) → Trace served
-run s hs rooms calls = trace served box (atPowerUp s hs rooms) calls
+abbrev pub run : Settings → Halves → List ℕ → List Pulse → List (Call served) → Trace served
+run s hs rooms row calls = trace served box (atPowerUp s hs rooms row) calls
 
-abbrev pub onlooker : Settings → Halves → List ℕ → View served
-onlooker s hs rooms = begins served box (atPowerUp s hs rooms)
+abbrev pub onlooker : Settings → Halves → List ℕ → List Pulse → View served
+onlooker s hs rooms row = begins served box (atPowerUp s hs rooms row)
 
 -- what the host reads of a call: the number, and as many bytes of the reply buffer as the reply has; a call without a buffer has no reply
 abbrev pub readOf : Done → List ℕ → Reply
 readOf r buffer = reply (r .answer) (take (r .len) buffer)
 
 -- so an entry point's answer, as a step of the box: what was lent, after it, the bytes taken, and what it says
-abbrev pub stepOf : Board → Halves → List ℕ → Done → Said Reply → Held × Answer served
-stepOf b hs rooms r said = (held b hs rooms, answer served (r .taken) said)
+abbrev pub stepOf : Board → Halves → List ℕ → List Pulse → Done → Said Reply → Held × Answer served
+stepOf b hs rooms row r said = (held b hs rooms row, answer served (r .taken) said)

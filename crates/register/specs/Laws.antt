@@ -10,12 +10,12 @@ use Rattle.words.specs.Words.{numberAt}
 use Rattle.rows.specs.Rows.{word}
 use Rattle.framing.specs.Cut.{Got, keepAlive, stray, tooLong, frame}
 use Rattle.rows.specs.Places.{Board, clockRow, rowAt, inputAt, lineAt}
-use Rattle.plain.specs.Lines.{withDue}
 use Rattle.board.specs.Halves.{halfAt}
 use Rattle.board.specs.Rooms.{roomAt}
 use Rattle.board.specs.Calls.{Effect}
 use Rattle.demand.specs.Demand.{Call, bytes, other}
 use Rattle.register.specs.Box.{Event, level, pass, connect, close, collect, Held, served}
+use Rattle.marks.specs.Marks.{withDue}
 
 -- "7 Set clock": a content of this type, whole or not
 abbrev pub TypeSeven : List ℕ → Type 0
@@ -26,7 +26,7 @@ pub record ButClock (before after : Board) : Type 0 where
   pub rows : (n : ℕ) → eqb n clockRow ≡ false → rowAt n after ≡ rowAt n before
   pub words : (j : ℕ) → eqb j 0 ≡ false → word j (rowAt clockRow after) ≡ word j (rowAt clockRow before)
 
--- "Numbers 3 to 13 write no reply", and every word of the board is as it was; so every byte of a reply buffer stays
+-- 01, Answer numbers, under the table, and 02, M-100, 7: numbers 3 to 14 write no reply, and every word of the board is as it was; so every byte of a reply buffer stays
 pub record Untouched (before : Board) (e : Effect) : Type 0 where
   pub board : e .did .board ≡ before
   pub silent : e .did .reply ≡ []

@@ -7,6 +7,8 @@ use Rattle.rows.proofs.relay_in.Reads as relay-in
 use Rattle.rows.proofs.relay_words.Reads as relay-words
 use Rattle.rows.proofs.line_in.Reads as line-in
 use Rattle.rows.proofs.line_words.Reads as line-words
+use Rattle.rows.proofs.queue_in.Reads as queue-in
+use Rattle.rows.proofs.queue_words.Reads as queue-words
 use Rattle.rows.proofs.is_channel.Reads as is-channel
 use Rattle.rows.proofs.input_at.Reads as input-at
 use Rattle.rows.proofs.put_input.Reads as put-input
@@ -16,6 +18,9 @@ use Rattle.rows.proofs.line_at.Reads as line-at
 use Rattle.rows.proofs.put_line.Reads as put-line
 use Rattle.rows.proofs.clock.Reads as clock
 use Rattle.rows.proofs.set_clock.Reads as set-clock
+use Rattle.rows.proofs.queue_of.Reads as queue-of
+use Rattle.rows.proofs.put_queue.Reads as put-queue
+use Rattle.rows.proofs.set_left.Reads as set-left
 
 pub unique-input-in : (κs : _) (a : _) (r r′ : _) (s s′ : _) → input-in.Post κs a r s → input-in.Post κs a r′ s′ → r ≡ r′
 unique-input-in κs a r r′ s s′ p q = p ∙ sym q
@@ -34,6 +39,12 @@ unique-line-in κs a r r′ s s′ p q = p ∙ sym q
 
 pub unique-line-words : (κs : _) (a : _) (r r′ : _) (s s′ : _) → line-words.Post κs a r s → line-words.Post κs a r′ s′ → r ≡ r′
 unique-line-words κs a r r′ s s′ p q = p ∙ sym q
+
+pub unique-queue-in : (κs : _) (a : _) (r r′ : _) (s s′ : _) → queue-in.Post κs a r s → queue-in.Post κs a r′ s′ → r ≡ r′
+unique-queue-in κs a r r′ s s′ p q = p ∙ sym q
+
+pub unique-queue-words : (κs : _) (a : _) (r r′ : _) (s s′ : _) → queue-words.Post κs a r s → queue-words.Post κs a r′ s′ → r ≡ r′
+unique-queue-words κs a r r′ s s′ p q = p ∙ sym q
 
 pub unique-is-channel : (κs : _) (a : _) (r r′ : _) (s s′ : _) → is-channel.Post κs a r s → is-channel.Post κs a r′ s′ → r ≡ r′
 unique-is-channel κs a r r′ s s′ p q = p ∙ sym q
@@ -61,3 +72,12 @@ unique-clock κs a r r′ s s′ p q = p ∙ sym q
 
 pub unique-set-clock : (κs : _) (a : _) (r r′ : _) (s s′ : _) → set-clock.Post κs a r s → set-clock.Post κs a r′ s′ → now (s .0) ≡ now (s′ .0)
 unique-set-clock κs a r r′ s s′ p q = p ∙ sym q
+
+pub unique-queue-of : (κs : _) (a : _) (r r′ : _) (s s′ : _) → queue-of.Post κs a r s → queue-of.Post κs a r′ s′ → r ≡ r′
+unique-queue-of κs a r r′ s s′ p q = p ∙ sym q
+
+pub unique-put-queue : (κs : _) (a : _) (r r′ : _) (s s′ : _) → put-queue.Post κs a r s → put-queue.Post κs a r′ s′ → now (s .0) ≡ now (s′ .0)
+unique-put-queue κs a r r′ s s′ p q = p ∙ sym q
+
+pub unique-set-left : (κs : _) (a : _) (r r′ : _) (s s′ : _) → set-left.Post κs a r s → set-left.Post κs a r′ s′ → now (s .0) ≡ now (s′ .0)
+unique-set-left κs a r r′ s s′ p q = p ∙ sym q

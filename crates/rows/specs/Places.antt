@@ -7,7 +7,8 @@ use lib.ListN.{getD, set}
 use Rattle.rows.specs.declared.Input.{Input}
 use Rattle.rows.specs.declared.Relay.{Relay}
 use Rattle.rows.specs.declared.Line.{Line}
-use Rattle.rows.specs.Rows.{word, inputIn, inputWords, relayIn, relayWords, lineIn, lineWords, blankInput, blankRelay, shutLine}
+use Rattle.rows.specs.declared.Queue.{Queue}
+use Rattle.rows.specs.Rows.{word, inputIn, inputWords, relayIn, relayWords, lineIn, lineWords, leftWord, queueIn, queueWords, blankInput, blankRelay, shutLine}
 
 -- the lent board: rows of words, all that the plain machine holds
 abbrev pub Board : Type 0
@@ -26,8 +27,11 @@ clockRow = 16
 abbrev pub firstLine : ℕ
 firstLine = 17
 
+abbrev pub queueRow : ℕ
+queueRow = 21
+
 abbrev pub rows : ℕ
-rows = 21
+rows = 22
 
 -- the row of input k, of relay k, of connection c; channels are counted from 1, connections from 0
 abbrev pub inputPlace : ℕ → ℕ
@@ -80,6 +84,17 @@ clockOf b = word 0 (rowAt clockRow b)
 -- 01, Messages offered, 7: the clock becomes that number; no other word does
 unfoldable pub clockSet : ℕ → Board → Board
 clockSet v b = set b clockRow (set (rowAt clockRow b) 0 v)
+
+-- the queue of pulses, and the board with another
+unfoldable pub queueOf : Board → Queue
+queueOf b = queueIn (rowAt queueRow b)
+
+unfoldable pub putQueue : Queue → Board → Board
+putQueue q b = set b queueRow (queueWords q)
+
+-- 02, M-100, 4: only the ms left of the running pulse change; no other word does
+unfoldable pub leftSet : ℕ → Board → Board
+leftSet v b = set b queueRow (set (rowAt queueRow b) leftWord v)
 
 -- n rows, those from row `from` on: row from + k becomes f k of it; the other rows stay
 unfoldable pub onRows : ℕ → ℕ → (ℕ → List ℕ → List ℕ) → Board → Board

@@ -7,6 +7,7 @@ use lib.ListN.{getD}
 use Rattle.rows.specs.declared.Input.{Input}
 use Rattle.rows.specs.declared.Relay.{Relay}
 use Rattle.rows.specs.declared.Line.{Line}
+use Rattle.rows.specs.declared.Queue.{Queue}
 
 -- word j of a row; one that is not there is 0
 abbrev pub word : ℕ → List ℕ → ℕ
@@ -57,6 +58,26 @@ lineIn w = record { isOpen = isOn (word 0 w); rank = word 1 w; monitor = isOn (w
 
 abbrev pub lineWords : Line → List ℕ
 lineWords l = flagged (l .isOpen) ∷ l .rank ∷ flagged (l .monitor) ∷ flagged (l .due) ∷ 0 ∷ 0 ∷ 0 ∷ 0 ∷ []
+
+-- 02, M-100, 4: the word of the queue's row that falls with time: the ms left of the running pulse
+abbrev pub leftWord : ℕ
+leftWord = 2
+
+-- 02, M-100, 2 and 3: the queue of pulses in its row, without its records, and its words
+abbrev pub queueIn : List ℕ → Queue
+queueIn w =
+    record {
+      first = word 0 w;
+      standing = word 1 w;
+      left = word leftWord w;
+      remembered = word 3 w;
+      mask = word 4 w;
+      states = word 5 w;
+      duration = word 6 w;
+    }
+
+abbrev pub queueWords : Queue → List ℕ
+queueWords q = q .first ∷ q .standing ∷ q .left ∷ q .remembered ∷ q .mask ∷ q .states ∷ q .duration ∷ 0 ∷ []
 
 -- what stands for an input, relay or connection that the box does not have: all zero, as no words read
 abbrev pub blankInput : Input

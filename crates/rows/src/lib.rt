@@ -3,8 +3,8 @@
 // and a store to it does nothing.
 
 ghost use mathlib.Core.Path.{_≡_};
-ghost use Rattle.rows.specs.Rows.{flagged, inputIn, inputWords, relayIn, relayWords, lineIn, lineWords};
-ghost use Rattle.rows.specs.Places.{isChannel, inputAt, putInput, relayAt, putRelay, lineAt, putLine, clockOf, clockSet};
+ghost use Rattle.rows.specs.Rows.{flagged, inputIn, inputWords, relayIn, relayWords, lineIn, lineWords, queueIn, queueWords};
+ghost use Rattle.rows.specs.Places.{isChannel, inputAt, putInput, relayAt, putRelay, lineAt, putLine, clockOf, clockSet, queueOf, putQueue, leftSet};
 
 // The first row of each kind, and the number of rows: here alone, as in specs/Places; what comes new is appended.
 pub const FIRST_INPUT: usize = 0;
@@ -15,12 +15,17 @@ pub const CLOCK: usize = 16;
 
 pub const FIRST_LINE: usize = 17;
 
-pub const ROWS: usize = 21;
+pub const QUEUE: usize = 21;
+
+pub const ROWS: usize = 22;
 
 // The words that the rows of inputs and relays have in common: on or closed, and the usage that grows then.
 pub const STATE: usize = 0;
 
 pub const USAGE: usize = 5;
+
+// The word of the queue's row that falls with time: the ms left of the running pulse.
+pub const LEFT: usize = 2;
 
 // An input; alarm is its alarm switch.
 pub struct Input {
@@ -45,6 +50,18 @@ pub struct Line {
     pub rank: u64,
     pub monitor: bool,
     pub due: bool,
+}
+
+// The queue of pulses, without its records, which stand in a row of their own: the place of the first, which runs, and how many stand; of the
+// running one the ms left and the relays' states at its beginning; and the request that was accepted last, as it goes into that row.
+pub struct Queue {
+    pub first: u64,
+    pub standing: u64,
+    pub left: u64,
+    pub remembered: u64,
+    pub mask: u64,
+    pub states: u64,
+    pub duration: u64,
 }
 
 fn flag(b: bool) -> u64
@@ -126,6 +143,35 @@ pub fn line_words(l: Line) -> [u64; 8]
     ]
 }
 
+pub fn queue_in(row: [u64; 8]) -> Queue
+    ensures { λ r. ⌜ r ≡ queueIn row ⌝ }
+{
+    Queue {
+        first: row[0],
+        standing: row[1],
+        left: row[LEFT],
+        remembered: row[3],
+        mask: row[4],
+        states: row[5],
+        duration: row[6],
+    }
+}
+
+pub fn queue_words(q: Queue) -> [u64; 8]
+    ensures { λ w. ⌜ w ≡ queueWords q ⌝ }
+{
+    [
+        q.first,
+        q.standing,
+        q.left,
+        q.remembered,
+        q.mask,
+        q.states,
+        q.duration,
+        0,
+    ]
+}
+
 // ---- the rows of the board
 
 // The one place where a channel is judged.
@@ -199,4 +245,23 @@ pub fn set_clock(board: &mut [[u64; 8]; ROWS], v: u64)
     ensures { λ u. ⌜ now (board .exit) ≡ clockSet v (now (board .entry)) ⌝ }
 {
     board[CLOCK][0] = v;
+}
+
+pub fn queue_of(board: &[[u64; 8]; ROWS]) -> Queue
+    ensures { λ r. ⌜ r ≡ queueOf (now (board .entry)) ⌝ }
+{
+    let row = board[QUEUE];
+    queue_in(row)
+}
+
+pub fn put_queue(board: &mut [[u64; 8]; ROWS], q: Queue)
+    ensures { λ u. ⌜ now (board .exit) ≡ putQueue q (now (board .entry)) ⌝ }
+{
+    board[QUEUE] = queue_words(q);
+}
+
+pub fn set_left(board: &mut [[u64; 8]; ROWS], v: u64)
+    ensures { λ u. ⌜ now (board .exit) ≡ leftSet v (now (board .entry)) ⌝ }
+{
+    board[QUEUE][LEFT] = v;
 }

@@ -294,7 +294,7 @@ fn close(name: &[u8], board: &mut [[u64; 8]; ROWS], halves: &mut [[u64; 3]; 4], 
     shown(name, board, d);
 }
 
-// A piece of connection c, with a reply buffer of 4,096 bytes.
+// A piece of connection c, with a reply buffer of 4,096 bytes. No time passes here, so that no row of pulses is kept.
 fn piece(
     name: &[u8],
     board: &mut [[u64; 8]; ROWS],
@@ -304,8 +304,8 @@ fn piece(
     bytes: &[u8],
 ) {
     let mut reply = [0u8; 4096];
-    let d = board::bytes(board, halves, rooms, c, bytes, &mut reply);
-    shown(name, board, d);
+    let t = board::bytes(board, halves, rooms, 31, c, bytes, &mut reply);
+    shown(name, board, board::done_of(t));
 }
 
 // The same with one byte less.
@@ -318,8 +318,8 @@ fn piece_short(
     bytes: &[u8],
 ) {
     let mut reply = [0u8; 4095];
-    let d = board::bytes(board, halves, rooms, c, bytes, &mut reply);
-    shown(name, board, d);
+    let t = board::bytes(board, halves, rooms, 31, c, bytes, &mut reply);
+    shown(name, board, board::done_of(t));
 }
 
 fn collect(name: &[u8], board: &mut [[u64; 8]; ROWS], c: u8) {

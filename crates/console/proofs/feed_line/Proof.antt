@@ -19,8 +19,12 @@ feed-line-spec =
     let p = k .before .before .parse .ensures in
     sym (length-take-le _ _ (piece-parsed _ _ _ _ _ (search needs) (p .0) (p .1) (k .p .given .1) .0)))
     (λ c κs. search needs)
+    (λ c κs. search needs)
     (λ c. search needs)
-    (λ c. let k = c .before .before .before .before .before .before .before in
+    (λ c. let b = c .before in
+    let k = b .before .before .before .before .before .before .before in
     let p = k .before .before .parse .ensures in
-    line-fed _ _ _ _ _ (search needs) (piece-parsed _ _ _ _ _ (search needs) (p .0) (p .1) (k .p .given .1) .1) (c .bytes .ensures))
+    let e = b .bytes .ensures in
+    rw (c .done-of .ensures)
+    (line-fed _ _ _ _ _ (search needs) (piece-parsed _ _ _ _ _ (search needs) (p .0) (p .1) (k .p .given .1) .1) (e .0, (e .1 .0, e .1 .1 .0))))
     (λ c. line-bad _ _ _ _ (c .before .before .parse .ensures .0) (c .enum-told .given .1)))

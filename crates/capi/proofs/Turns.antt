@@ -1,0 +1,28 @@
+-- A turn of the loop in a call of time: what the calls in it say, together. Assumes nothing.
+use mathlib.Core.Path.{_≡_, ap, sym, subst, _∙_}
+use mathlib.Core.Bool.{Bool, true, false, not}
+use mathlib.Core.List.{List}
+use Prim.Native.Nat.{ℕ, _<_}
+use lib.Dec.{T}
+use Rattle.rows.specs.Places.{Board}
+use Rattle.pulses.specs.declared.Pulse.{Pulse}
+use Rattle.pulses.specs.declared.Time.{Time}
+use Rattle.pulses.specs.Pulses.{pulseAt}
+use Rattle.pulses.specs.Passing.{Goes, turnOf}
+use Rattle.pulses.proofs.Passing.{Passing, waiting, passing-turn}
+
+-- how the loop's test came out, whose result y is the time's
+pub going-on : (y b : Bool) → T y → y ≡ b → b ≡ true
+going-on true b h e = sym e
+
+pub over : (y b : Bool) → T (not y) → y ≡ b → b ≡ false
+over false b h e = sym e
+
+-- the two places are read, the pulses there are looked up, and with them the time turns
+pub turned : (row : List Pulse) (d : ℕ) (b z z′ : Board) (t t′ : Time) (i j : ℕ) (ending next : Pulse) → Passing row d b t z → t .ends ≡ true
+    → i ≡ t .first → ending ≡ pulseAt row i → j ≡ t .next → next ≡ pulseAt row j → Goes (turnOf ending next t z) z′ t′
+    → Passing row d b t′ z′ × (waiting z′ < waiting z)
+turned row d b z z′ t t′ i j ending next m e at-i is-ending at-j is-next goes =
+    passing-turn m e
+    (subst (λ (p : Pulse). Goes (turnOf (pulseAt row (t .first)) p t z) z′ t′) (is-next ∙ ap (pulseAt row) at-j)
+    (subst (λ (p : Pulse). Goes (turnOf p next t z) z′ t′) (is-ending ∙ ap (pulseAt row) at-i) goes))

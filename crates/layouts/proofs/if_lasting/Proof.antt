@@ -1,0 +1,13 @@
+-- `layouts::if_lasting`: by the test on the duration. Assumes nothing.
+use Rattle.laws.proofs.Tests.{tests}
+use Rattle.layouts.specs.Layouts.{ifLasting}
+use Rattle.layouts.proofs.if_lasting.Statement.{statement}
+use Rattle.layouts.proofs.if_lasting.Tie as tie
+
+pub if-lasting-spec : {M : Type 1} → statement M
+unfolding ifLasting
+if-lasting-spec =
+    tie.close
+    (tie.spec
+    (λ c. search tests)
+    (λ c. search tests))

@@ -1,0 +1,13 @@
+-- `layouts::if_sized`: by the test on the length. Assumes nothing.
+use Rattle.laws.proofs.Tests.{tests}
+use Rattle.layouts.specs.Layouts.{ifSized}
+use Rattle.layouts.proofs.if_sized.Statement.{statement}
+use Rattle.layouts.proofs.if_sized.Tie as tie
+
+pub if-sized-spec : {M : Type 1} → statement M
+unfolding ifSized
+if-sized-spec =
+    tie.close
+    (tie.spec
+    (λ c. search tests)
+    (λ c. search tests))

@@ -1,0 +1,15 @@
+-- For one input, two answers that a contract allows are equal, and so are the rows after them. Assumes nothing.
+use mathlib.Core.Path.{_≡_, sym, _∙_}
+use mathlib.Core.List.{List}
+use Prim.Native.Nat.{ℕ}
+use lib.ListN.{set}
+use Rattle.pulses.specs.declared.Pulse.{Pulse}
+use Rattle.pulses.specs.Pulses.{pulseAt}
+
+-- the contract of `lent::pulse_at`, written out: its proof is a walk, which gives it no name
+pub unique-pulse-at : (row : List Pulse) (i : ℕ) {r r′ : Pulse} → r ≡ pulseAt row i → r′ ≡ pulseAt row i → r ≡ r′
+unique-pulse-at row i p q = p ∙ sym q
+
+-- the contract of `lent::put_pulse`, written out likewise
+pub unique-put-pulse : (row : List Pulse) (i : ℕ) (x : Pulse) {row₁ row₂ : List Pulse} → row₁ ≡ set row i x → row₂ ≡ set row i x → row₁ ≡ row₂
+unique-put-pulse row i x p q = p ∙ sym q

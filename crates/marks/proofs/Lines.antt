@@ -1,0 +1,21 @@
+-- A connection that is marked, as its row. Assumes nothing.
+use mathlib.Core.Path.{_≡_, refl, sym, _∙_}
+use mathlib.Core.Bool.{Bool, true, false, cond}
+use mathlib.Core.List.{[]}
+use Prim.Native.Nat.{ℕ, _<_}
+use borrow.Author.Tests.{lt-ltb}
+use lib.ListN.{set}
+use lib.Seq.{set-getD}
+use Rattle.rows.specs.Rows.{lineIn, lineWords}
+use Rattle.rows.specs.Places.{Board, rowAt, lineAt, putLine, linePlace}
+use Rattle.marks.specs.Marks.{withDue, watches, markedRow}
+
+pub marked-row : (c : ℕ) (b b′ : Board) → c < 4 → b′ ≡ cond (watches (lineAt c b)) (putLine c (withDue true (lineAt c b)) b) b
+    → b′ ≡ set b (linePlace c) (markedRow (rowAt (linePlace c) b))
+unfolding lineAt putLine markedRow
+marked-row c b b′ h e = e ∙ rw (lt-ltb c 4 h) (go (watches (lineIn (rowAt (linePlace c) b))))
+  where
+    go : (t : Bool) → cond t (set b (linePlace c) (lineWords (withDue true (lineIn (rowAt (linePlace c) b))))) b
+        ≡ set b (linePlace c) (cond t (lineWords (withDue true (lineIn (rowAt (linePlace c) b)))) (rowAt (linePlace c) b))
+    go true = refl
+    go false = sym (set-getD b (linePlace c) [])

@@ -1,0 +1,340 @@
+// Pulsed relays: what a pulse is, its beginning and end, the queue as a ring of 31 places, and passing time.
+// The pulses' records stand in a lent row, which this crate never sees: what it needs of it comes by value, and a request that is accepted is
+// kept in the board until it is written there. Takes every board, nonsense words too: of a number of pulses above 31, 31 stand; the first
+// stands at the rest of its place by 31; a pulse with no ms left ends in the next ms.
+
+ghost use mathlib.Core.Path.{_≡_};
+ghost use mathlib.Core.Bool.{cond};
+ghost use Prim.Native.Nat.{_+_, _-_, _<_, _^_, min};
+ghost use Rattle.rows.specs.Places.{relayAt, queueOf};
+ghost use Rattle.pulses.specs.Pulses.{pulseOf, relayPulse, shortRow, standing, isFull, place, statesOf, switched, beginning, begun, popped, ended, followed, lasts, endsWithin, waited, joined, accepted, newest, seatOf};
+ghost use Rattle.pulses.specs.Passing.{onward, startOf, turnOf, over, until, Goes};
+use rows::Queue;
+use rows::ROWS;
+
+// The masked relays take these states for so many ms.
+#[repr(C)]
+pub struct Pulse {
+    pub mask: u16,
+    pub states: u16,
+    pub duration: u32,
+}
+
+// How far a call of time has come: the ms that are left, the running pulse's place in the row and that of the next, the call's answer, and
+// whether the running pulse ends within those ms. Where none does, all have passed.
+pub struct Time {
+    pub rest: u32,
+    pub first: usize,
+    pub next: usize,
+    pub answer: u8,
+    pub ends: bool,
+}
+
+// ---- requests
+
+// Action 6: relay k is closed for so many ms.
+pub fn relay_pulse(k: u16, duration: u32) -> Pulse
+    ensures { λ r. ⌜ r ≡ relayPulse k duration ⌝ }
+{
+    let mut mask: u16 = 0;
+    if rows::is_channel(k as usize) {
+        mask = 1 << (k - 1);
+    }
+    Pulse {
+        mask,
+        states: mask,
+        duration,
+    }
+}
+
+// Action 7: the masked relays take these states for so many ms; a mask of a byte names relays 1 to 8.
+pub fn block_pulse(mask: u8, states: u8, duration: u32) -> Pulse
+    ensures { λ r. ⌜ r ≡ pulseOf mask states duration ⌝ }
+{
+    Pulse {
+        mask: mask as u16,
+        states: states as u16,
+        duration,
+    }
+}
+
+// A place of the ring: the k-th behind the first.
+fn place_in(q: Queue, k: u64) -> usize
+    ensures { λ r. ⌜ r ≡ place q k ⌝ }
+{
+    ((q.first % 31 + k % 31) % 31) as usize
+}
+
+// The queue with a request more, behind the last.
+fn join(q: Queue, p: Pulse) -> Queue
+    requires { ⌜ q .standing < 31 ⌝ }
+    ensures { λ r. ⌜ r ≡ joined p q ⌝ }
+{
+    Queue {
+        first: q.first,
+        standing: q.standing + 1,
+        left: q.left,
+        remembered: q.remembered,
+        mask: p.mask as u64,
+        states: p.states as u64,
+        duration: p.duration as u64,
+    }
+}
+
+// A pulse is asked for: 14 where 31 stand. It begins at once when none runs.
+pub fn push(board: &mut [[u64; 8]; ROWS], p: Pulse) -> u8
+    ensures { λ r. ⌜ now (board .exit) ≡ cond (isFull (queueOf (now (board .entry)))) (now (board .entry)) (accepted p (now (board .entry))) ⌝ }
+    ensures { λ r. ⌜ r ≡ cond (isFull (queueOf (now (board .entry)))) 14 1 ⌝ }
+{
+    let q = rows::queue_of(board);
+    if 31 <= q.standing {
+        return 14;
+    }
+    rows::put_queue(board, join(q, p));
+    if q.standing == 0 {
+        begin(board, p);
+    }
+    1
+}
+
+// The request that was accepted last, as it goes into the row.
+pub fn newest_of(board: &[[u64; 8]; ROWS]) -> Pulse
+    ensures { λ r. ⌜ r ≡ newest (now (board .entry)) ⌝ }
+{
+    let q = rows::queue_of(board);
+    Pulse {
+        mask: (q.mask % 0x1_0000) as u16,
+        states: (q.states % 0x1_0000) as u16,
+        duration: (q.duration % 0x1_0000_0000) as u32,
+    }
+}
+
+// Its place in a row of so many records, where more pulses stand than did before; else none, behind the row's end.
+pub fn seat(before: Queue, after: Queue, records: usize) -> usize
+    ensures { λ r. ⌜ r ≡ seatOf records before after ⌝ }
+{
+    if before.standing < after.standing {
+        return place_in(after, after.standing - 1);
+    }
+    records
+}
+
+// ---- a beginning and an end
+
+// The states with that of the relay behind the first k.
+fn with_relay(states: u64, k: usize, closed: bool) -> u64
+    requires { ⌜ (k < 8) × (states < 2 ^ k) ⌝ }
+    ensures { λ r. ⌜ r ≡ states + cond closed (2 ^ k) 0 ⌝ }
+{
+    if closed {
+        let weight: u64 = 1 << k;
+        return states + weight;
+    }
+    states
+}
+
+fn is_closed(board: &[[u64; 8]; ROWS], k: usize) -> bool
+    ensures { λ r. ⌜ r ≡ relayAt k (now (board .entry)) .closed ⌝ }
+{
+    let r = rows::relay_at(board, k);
+    r.closed
+}
+
+// The relays' states, a bit for each, the lowest relay 1.
+fn states_of(board: &[[u64; 8]; ROWS]) -> u64
+    ensures { λ r. ⌜ r ≡ statesOf (now (board .entry)) ⌝ }
+{
+    let mut states: u64 = 0;
+    for k in 0..8 {
+        states = with_relay(states, k, is_closed(board, k + 1));
+    }
+    states
+}
+
+// The masked relays take these states: a change of its own.
+fn switch(board: &mut [[u64; 8]; ROWS], mask: u16, states: u16)
+    ensures { λ u. ⌜ now (board .exit) ≡ switched mask states (now (board .entry)) ⌝ }
+{
+    let r = changes::block(board, mask, states);
+    marks::mark(board, r.changed);
+}
+
+// A pulse begins: its ms are left, the relays' states are remembered, and the masked take the pulse's.
+fn begin(board: &mut [[u64; 8]; ROWS], p: Pulse)
+    ensures { λ u. ⌜ now (board .exit) ≡ begun p (now (board .entry)) ⌝ }
+{
+    let mut q = rows::queue_of(board);
+    q.left = p.duration as u64;
+    q.remembered = states_of(board);
+    rows::put_queue(board, q);
+    switch(board, p.mask, p.states);
+}
+
+// How many stand when the first is gone; of a number above 31, 31 stood.
+fn one_less(standing: u64) -> u64
+    ensures { λ r. ⌜ r ≡ min standing 31 - 1 ⌝ }
+{
+    if 31 < standing {
+        return 30;
+    }
+    if standing == 0 {
+        return 0;
+    }
+    standing - 1
+}
+
+// The first is gone.
+fn pop(q: Queue) -> Queue
+    ensures { λ r. ⌜ r ≡ popped q ⌝ }
+{
+    Queue {
+        first: place_in(q, 1) as u64,
+        standing: one_less(q.standing),
+        left: 0,
+        remembered: 0,
+        mask: q.mask,
+        states: q.states,
+        duration: q.duration,
+    }
+}
+
+// The running pulse, p, ends: the masked relays return to the states that they had at its beginning.
+fn end(board: &mut [[u64; 8]; ROWS], p: Pulse)
+    ensures { λ u. ⌜ now (board .exit) ≡ ended p (now (board .entry)) ⌝ }
+{
+    let q = rows::queue_of(board);
+    rows::put_queue(board, pop(q));
+    switch(board, p.mask, (q.remembered % 0x1_0000) as u16);
+}
+
+// The next begins, if one waits.
+fn follow(board: &mut [[u64; 8]; ROWS], next: Pulse)
+    ensures { λ u. ⌜ now (board .exit) ≡ followed next (now (board .entry)) ⌝ }
+{
+    let q = rows::queue_of(board);
+    if 0 < q.standing {
+        begin(board, next);
+    }
+}
+
+// ---- passing time
+
+// The ms up to the running pulse's end.
+fn last(q: Queue) -> u64
+    ensures { λ r. ⌜ r ≡ lasts q ⌝ }
+{
+    if q.left < 1 {
+        return 1;
+    }
+    q.left
+}
+
+// A pulse runs, and ends within d ms.
+fn ends_within(q: Queue, d: u32) -> bool
+    ensures { λ r. ⌜ r ≡ endsWithin d q ⌝ }
+{
+    0 < q.standing && last(q) <= (d as u64)
+}
+
+fn less(x: u64, d: u32) -> u64
+    ensures { λ r. ⌜ r ≡ x - d ⌝ }
+{
+    let ms = d as u64;
+    if x < ms {
+        return 0;
+    }
+    x - ms
+}
+
+// d ms in which no pulse ends.
+fn wait(board: &mut [[u64; 8]; ROWS], d: u32)
+    ensures { λ u. ⌜ now (board .exit) ≡ waited d (now (board .entry)) ⌝ }
+{
+    let q = rows::queue_of(board);
+    tables::pass(board, d);
+    if 0 < q.standing {
+        rows::set_left(board, less(q.left, d));
+    }
+}
+
+// Nothing more is to be done in a call of time.
+fn no_more(answer: u8) -> Time
+    ensures { λ r. ⌜ r ≡ over answer ⌝ }
+{
+    Time {
+        rest: 0,
+        first: 0,
+        next: 0,
+        answer,
+        ends: false,
+    }
+}
+
+// d ms more: they pass at once where no pulse ends within them.
+fn go_on(board: &mut [[u64; 8]; ROWS], d: u32) -> Time
+    ensures { λ r. ⌜ Goes (onward d (now (board .entry))) (now (board .exit)) r ⌝ }
+{
+    let q = rows::queue_of(board);
+    if ends_within(q, d) {
+        return Time {
+            rest: d,
+            first: place_in(q, 0),
+            next: place_in(q, 1),
+            answer: 1,
+            ends: true,
+        };
+    }
+    wait(board, d);
+    no_more(1)
+}
+
+// A call of time begins: d ms, with a row of so many records.
+pub fn time_of(board: &mut [[u64; 8]; ROWS], records: usize, d: u32) -> Time
+    ensures { λ r. ⌜ Goes (startOf records d (now (board .entry))) (now (board .exit)) r ⌝ }
+{
+    if records < 31 {
+        return no_more(4);
+    }
+    go_on(board, d)
+}
+
+// Whether the running pulse is to end, by `turn`.
+pub fn going(t: Time) -> bool
+    ensures { λ r. ⌜ r ≡ t .ends ⌝ }
+{
+    t.ends
+}
+
+// The running pulse's place in the row, and that of the next.
+pub fn first_of(t: Time) -> usize
+    ensures { λ r. ⌜ r ≡ t .first ⌝ }
+{
+    t.first
+}
+
+pub fn next_of(t: Time) -> usize
+    ensures { λ r. ⌜ r ≡ t .next ⌝ }
+{
+    t.next
+}
+
+// The smaller of two numbers of ms.
+fn least(x: u64, y: u32) -> u32
+    ensures { λ r. ⌜ r ≡ min x y ⌝ }
+{
+    if x < (y as u64) {
+        return x as u32;
+    }
+    y
+}
+
+// Time passes up to the running pulse's end: it ends, the next begins, and time goes on.
+pub fn turn(board: &mut [[u64; 8]; ROWS], ending: Pulse, next: Pulse, t: Time) -> Time
+    ensures { λ r. ⌜ Goes (turnOf ending next t (now (board .entry))) (now (board .exit)) r ⌝ }
+{
+    let ms = least(last(rows::queue_of(board)), t.rest);
+    tables::pass(board, ms);
+    end(board, ending);
+    follow(board, next);
+    go_on(board, t.rest - ms)
+}

@@ -1,0 +1,205 @@
+-- Nothing but time and a request for a pulse touches the queue: no command, block, entry, clock setting, level, opening, closing or collection.
+--     queue-message    a message leaves every word of the queue's row, or asks for a pulse that is accepted
+--     queue-event      an event but passing time leaves every word of it
+--     running-kept     so the running pulse keeps its place, its ms left and the states that were remembered, whatever message comes
+-- Assumes nothing.
+use mathlib.Core.Path.{_≡_, refl, ap, _∙_}
+use mathlib.Core.Bool.{Bool, true, false}
+use mathlib.Core.List.{List, []}
+use Prim.Native.Nat.{ℕ, zero, suc, _+_, _≤_, _<_}
+use native.Mathlib.Omega.{arith}
+use borrow.Author.Tests.{ltb-true}
+use lib.Dec.{eqb, ltb}
+use lib.ListN.{set}
+use lib.Seq.{getD-set-other}
+use Rattle.laws.proofs.Tests.{by-cases}
+use Rattle.framing.specs.Cut.{Got, keepAlive, stray, tooLong, frame}
+use Rattle.layouts.specs.declared.Order.{Order}
+use Rattle.layouts.specs.declared.Order.the-variants.{Refused, Clock, Monitor, Usage, MonitorOff, MonitorOn, SetClock, Close, Open, Toggle, ClearCount, ClearInputUsage, ClearRelayUsage, Block, PulseRelay, PulseBlock, Read, Write, Enumerate}
+use Rattle.rows.specs.declared.Input.{Input}
+use Rattle.rows.specs.declared.Relay.{Relay}
+use Rattle.rows.specs.declared.Line.{Line}
+use Rattle.rows.specs.declared.Queue.{Queue}
+use Rattle.rows.specs.Rows.{queueIn}
+use Rattle.rows.specs.Places.{Board, isChannel, isConnection, rowAt, inputAt, relayAt, lineAt, putInput, putRelay, putLine, clockSet, onRows, inputPlace, relayPlace, linePlace, firstRelay, firstLine, clockRow, queueRow, queueOf}
+use Rattle.rows.proofs.Channel.{in-range}
+use Rattle.rows.proofs.Range.{beyond}
+use Rattle.tables.specs.declared.Device.{Device}
+use Rattle.tables.specs.declared.Device.the-variants.{Din, Rout, Unknown}
+use Rattle.tables.specs.Devices.{deviceOf}
+use Rattle.changes.specs.Answers.{onInput, onRelay}
+use Rattle.changes.specs.Levels.{hasLevel, levelOf}
+use Rattle.changes.specs.Commands.{blockedRow, blockOf}
+use Rattle.changes.specs.Entries.{relayFails, writeInput, writeRelay}
+use Rattle.orders.specs.declared.Entry.{Entry}
+use Rattle.orders.specs.Entries.{entryOf}
+use Rattle.orders.specs.Orders.{orderOf}
+use Rattle.writes.specs.Writes.{Entered, inputSizeFits, relaySizeFits, deviceDone, soFar, entryNoted, writtenFrom}
+use Rattle.marks.specs.Marks.{markedRow, marked}
+use Rattle.pulses.specs.declared.Pulse.{Pulse}
+use Rattle.pulses.specs.Pulses.{pulseOf, relayPulse, runs, isFull, joined, accepted}
+use Rattle.pulses.proofs.Passing.{has-row, told-again}
+use Rattle.plain.specs.Lines.{openedLine}
+use Rattle.plain.specs.Events.{leveled, connected, closed, monitorSent, collected}
+use Rattle.serving.specs.Obeying.{monitorSet, clockTold, pulsed, obeyed}
+use Rattle.serving.specs.Serving.{servedContent, servedMessage}
+use Rattle.register.specs.Box.{Event, level, pass, connect, close, collect, Tables, happens}
+use Rattle.register.proofs.Cases.{frame-cases, connect-cases, close-cases, collect-cases}
+
+-- every word of the queue's row is as it was
+pub record Beside (b b′ : Board) : Type 0 where
+  pub row : rowAt queueRow b′ ≡ rowAt queueRow b
+
+same : (b : Board) → Beside b b
+same b = record { row = refl }
+
+then : {b b′ b″ : Board} → Beside b b′ → Beside b′ b″ → Beside b b″
+then e f = record { row = f .row ∙ e .row }
+
+store : (n : ℕ) (b : Board) (r : List ℕ) → n < queueRow → Beside b (set b n r)
+store n b r h = record { row = getD-set-other b n queueRow r [] (λ e. omega arith) }
+
+change : (from n : ℕ) (f : ℕ → List ℕ → List ℕ) (b : Board) → from + n ≤ queueRow → Beside b (onRows from n f b)
+change from n f b h = record { row = beyond from n queueRow f b h }
+
+-- ---- records, changes and marks
+
+input-beside : (k : ℕ) (i : Input) (b : Board) → Beside b (putInput k i b)
+unfolding putInput
+input-beside k i b = by-cases (isChannel k) (λ h. rw h (store (inputPlace k) b _ (omega (arith, in-range k refl h)))) (λ h. rw h (same b))
+
+relay-beside : (k : ℕ) (r : Relay) (b : Board) → Beside b (putRelay k r b)
+unfolding putRelay
+relay-beside k r b = by-cases (isChannel k) (λ h. rw h (store (relayPlace k) b _ (omega (arith, in-range k refl h)))) (λ h. rw h (same b))
+
+line-beside : (c : ℕ) (l : Line) (b : Board) → Beside b (putLine c l b)
+unfolding putLine
+line-beside c l b = by-cases (isConnection c) (λ h. rw h (store (linePlace c) b _ (omega (arith, ltb-true c 4 h)))) (λ h. rw h (same b))
+
+clock-beside : (v : ℕ) (b : Board) → Beside b (clockSet v b)
+unfolding clockSet
+clock-beside v b = store clockRow b _ (omega arith)
+
+on-input : (f : Input → Input) (k : ℕ) (b : Board) → Beside b (onInput f k b .board)
+unfolding onInput
+on-input f k b = by-cases (isChannel k) (λ h. rw h (input-beside k (f (inputAt k b)) b)) (λ h. rw h (same b))
+
+on-relay : (f : Relay → Relay) (k : ℕ) (b : Board) → Beside b (onRelay f k b .board)
+unfolding onRelay
+on-relay f k b = by-cases (isChannel k) (λ h. rw h (relay-beside k (f (relayAt k b)) b)) (λ h. rw h (same b))
+
+level-beside : (k v : ℕ) (b : Board) → Beside b (levelOf k v b .board)
+unfolding levelOf
+level-beside k v b =
+    by-cases (ltb 1 v) (λ h. rw h (same b)) (λ h. rw h (by-cases (hasLevel k (eqb v 1) b) (λ q. rw q (same b)) (λ q. rw q (on-input _ k b))))
+
+block-beside : (mask states : ℕ) (b : Board) → Beside b (blockOf mask states b .board)
+unfolding blockOf
+block-beside mask states b = change firstRelay 8 (blockedRow mask states) b (omega arith)
+
+device-beside : (d : Device) (e : Entry) (b : Board) → Beside b (deviceDone d e b .board)
+unfolding deviceDone writeInput writeRelay
+device-beside (Din k) e b =
+    by-cases (inputSizeFits (e .size) (e .flags))
+    (λ h. rw h (by-cases (ltb 7 (e .flags)) (λ q. rw q (same b)) (λ q. rw q (on-input _ k b))))
+    (λ h. rw h (same b))
+device-beside (Rout k) e b =
+    by-cases (relaySizeFits (e .size) (e .flags))
+    (λ h. rw h (by-cases (relayFails (e .flags) (e .state)) (λ q. rw q (same b)) (λ q. rw q (on-relay _ k b))))
+    (λ h. rw h (same b))
+device-beside Unknown e b = same b
+
+written-beside : (content : List ℕ) (at n : ℕ) (w : Entered) → Beside (w .board) (writtenFrom content at n w .board)
+unfolding writtenFrom
+written-beside content at zero w = same (w .board)
+written-beside content at (suc n) w =
+    then (device-beside (deviceOf (entryOf content at .id)) (entryOf content at) (w .board))
+    (written-beside content (entryOf content at .next) n (entryNoted content at w))
+
+follows : (changed : Bool) {b b′ : Board} → Beside b b′ → Beside b (marked changed b′)
+unfolding marked
+follows true {b′ = b′} e = then e (change firstLine 4 (λ _. markedRow) b′ (omega arith))
+follows false e = e
+
+-- ---- events
+
+-- all of them but passing time
+pub data Timeless : Event → Type 0 where
+  telling : (k v : ℕ) → Timeless (level k v)
+  opening : (c rank : ℕ) → Timeless (connect c rank)
+  closing : (c : ℕ) → Timeless (close c)
+  collecting : (c room : ℕ) → Timeless (collect c room)
+
+pub queue-event : {e : Event} → Timeless e → (t : Tables) → Beside (t .board) (happens e t .board)
+unfolding leveled monitorSent
+queue-event (telling k v) t = follows (levelOf k v (t .board) .changed) (level-beside k v (t .board))
+queue-event (opening c rank) t =
+    let b : Board = t .board in
+    connect-cases c b rank (λ d. Beside b (d .board)) (same b) (same b) (same b) (λ u. line-beside c (openedLine rank) b)
+queue-event (closing c) t = let b : Board = t .board in close-cases c b (λ d. Beside b (d .board)) (same b) (λ u. line-beside c _ b)
+queue-event (collecting c room) t =
+    let b : Board = t .board in
+    collect-cases c b room (λ d. Beside b (d .board)) (same b) (same b) (same b) (λ v. line-beside c _ b)
+
+-- ---- messages
+
+-- the queue's row stays, or a pulse is accepted
+pub data Asked (b b′ : Board) : Type 0 where
+  nothing : Beside b b′ → Asked b b′
+  asks : (p : Pulse) → b′ ≡ accepted p b → Asked b b′
+
+pulsed-asks : (p : Pulse) (b : Board) → Asked b (pulsed p b .board)
+unfolding pulsed
+pulsed-asks p b = by-cases (isFull (queueOf b)) (λ f. rw f (nothing (same b))) (λ f. rw f (asks p refl))
+
+obeyed-asks : (c : ℕ) (s : List ℕ) (o : Order) (b : Board) → Asked b (obeyed c s o b .board)
+unfolding obeyed monitorSet clockTold
+obeyed-asks c s (Refused n) b = nothing (same b)
+obeyed-asks c s Clock b = nothing (same b)
+obeyed-asks c s Monitor b = nothing (same b)
+obeyed-asks c s Usage b = nothing (same b)
+obeyed-asks c s MonitorOff b = nothing (line-beside c _ b)
+obeyed-asks c s MonitorOn b = nothing (line-beside c _ b)
+obeyed-asks c s (SetClock v) b = nothing (clock-beside v b)
+obeyed-asks c s (Close k) b = nothing (follows _ (on-relay _ k b))
+obeyed-asks c s (Open k) b = nothing (follows _ (on-relay _ k b))
+obeyed-asks c s (Toggle k) b = nothing (follows _ (on-relay _ k b))
+obeyed-asks c s (ClearCount k) b = nothing (follows _ (on-input _ k b))
+obeyed-asks c s (ClearInputUsage k) b = nothing (follows _ (on-input _ k b))
+obeyed-asks c s (ClearRelayUsage k) b = nothing (follows _ (on-relay _ k b))
+obeyed-asks c s (Block mask states) b = nothing (follows _ (block-beside mask states b))
+obeyed-asks c s (PulseRelay k ms) b = pulsed-asks (relayPulse k ms) b
+obeyed-asks c s (PulseBlock mask states ms) b = pulsed-asks (pulseOf mask states ms) b
+obeyed-asks c s (Read n) b = nothing (same b)
+obeyed-asks c s (Write n) b = nothing (follows _ (written-beside s 3 n (soFar b 0 false)))
+obeyed-asks c s (Enumerate flags) b = nothing (same b)
+
+pub queue-message : (c : ℕ) (g : Got) (b : Board) → Asked b (servedMessage c g b .board)
+unfolding servedMessage servedContent
+queue-message c keepAlive b = nothing (same b)
+queue-message c stray b = nothing (same b)
+queue-message c tooLong b = nothing (same b)
+queue-message c (frame sum s) b = frame-cases c sum s b (λ d. Asked b (d .board)) (obeyed-asks c s (orderOf s (lineAt c b .rank)) b) (nothing (same b))
+
+-- ---- the running pulse
+
+-- its place, the ms that it has left, and the states that it returns to
+pub record Running (q q′ : Queue) : Type 0 where
+  pub first : q′ .first ≡ q .first
+  pub left : q′ .left ≡ q .left
+  pub remembered : q′ .remembered ≡ q .remembered
+
+as-it-was : {q q′ : Queue} → q′ ≡ q → Running q q′
+as-it-was e = record { first = ap (λ (q : Queue). q .first) e; left = ap (λ (q : Queue). q .left) e; remembered = ap (λ (q : Queue). q .remembered) e }
+
+behind-it : (p : Pulse) (b : Board) → runs (queueOf b) ≡ true → queueOf (accepted p b) ≡ joined p (queueOf b)
+unfolding accepted
+behind-it p b r = rw r (told-again (joined p (queueOf b)) b (has-row b r))
+
+asked-kept : {b b′ : Board} → runs (queueOf b) ≡ true → Asked b b′ → Running (queueOf b) (queueOf b′)
+unfolding queueOf
+asked-kept r (nothing e) = as-it-was (ap queueIn (e .row))
+asked-kept {b} r (asks p e) = let q = ap queueOf e ∙ behind-it p b r in rw q (record { first = refl; left = refl; remembered = refl })
+
+pub running-kept : (c : ℕ) (g : Got) (b : Board) → runs (queueOf b) ≡ true → Running (queueOf b) (queueOf (servedMessage c g b .board))
+running-kept c g b r = asked-kept r (queue-message c g b)
