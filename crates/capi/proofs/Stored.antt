@@ -10,9 +10,8 @@ use lib.Seq.{set-out}
 use Rattle.laws.proofs.Tests.{by-cases}
 use Rattle.rows.specs.Places.{Board, queueOf}
 use Rattle.pulses.specs.declared.Pulse.{Pulse}
-use Rattle.pulses.specs.Pulses.{seatOf, newest}
+use Rattle.pulses.specs.Pulses.{seatOf, newest, rowAfter}
 use Rattle.board.specs.declared.Taken.{Taken}
-use Rattle.board.specs.Calls.{rowAfter}
 
 -- the place behind the row's end takes no record
 at-seat : (b b′ : Board) (row : List Pulse) → set row (seatOf (length row) (queueOf b) (queueOf b′)) (newest b′) ≡ rowAfter b b′ row

@@ -6,9 +6,10 @@ use lib.ListN.{length}
 use denote.Ref.{now}
 use Rattle.rows.specs.Places.{Board}
 use Rattle.pulses.specs.declared.Pulse.{Pulse}
+use Rattle.pulses.specs.Pulses.{rowAfter}
 use Rattle.board.specs.declared.Done.{Done}
 use Rattle.board.specs.Halves.{Halves}
-use Rattle.board.specs.Calls.{Effect, passCall, bytesCall, halvesAfter, roomsAfter, rowAfter, Ends, Answers}
+use Rattle.board.specs.Calls.{Effect, passCall, bytesCall, halvesAfter, roomsAfter, Ends, Answers}
 use Rattle.board.proofs.Same.{ends, answers, halved}
 use Rattle.capi.proofs.wellacorn_power_up.Reads as power-up
 use Rattle.capi.proofs.wellacorn_level.Reads as level

@@ -4,8 +4,9 @@
 
 ghost use mathlib.Core.Path.{_≡_};
 ghost use lib.ListN.{length};
+ghost use Rattle.pulses.specs.Pulses.{rowAfter};
 ghost use Rattle.board.specs.PowerUp.{poweredUp};
-ghost use Rattle.board.specs.Calls.{levelCall, passCall, connectCall, closeCall, collectCall, bytesCall, dropped, halvesAfter, roomsAfter, rowAfter, Ends, Answers};
+ghost use Rattle.board.specs.Calls.{levelCall, passCall, connectCall, closeCall, collectCall, bytesCall, dropped, halvesAfter, roomsAfter, Ends, Answers};
 use board::Done;
 use board::Settings;
 use pulses::Pulse;

@@ -2,17 +2,17 @@
 --     queue-passed, queue-switched   the queue's row stays
 --     left-passed                    and the ms left may be set before or after
 -- Assumes nothing.
-use mathlib.Core.Path.{_≡_, refl, sym, ap, _∙_}
-use mathlib.Core.Bool.{Bool, true, false, cond}
+use mathlib.Core.Path.{_≡_, refl, ap, _∙_}
+use mathlib.Core.Bool.{Bool, true, false}
 use mathlib.Core.List.{List, []}
 use Prim.Native.Nat.{ℕ}
 use native.Mathlib.Omega.{arith}
 use lib.ListN.{set}
 use lib.Seq.{getD-set-other, set-comm}
-use Rattle.rows.specs.Rows.{word, queueIn}
-use Rattle.rows.specs.Places.{Board, rowAt, clockRow, clockOf, clockSet, firstRelay, firstLine, queueRow, queueOf, leftSet, onRows}
+use Rattle.rows.specs.Rows.{queueIn}
+use Rattle.rows.specs.Places.{Board, rowAt, clockRow, clockSet, firstRelay, firstLine, queueRow, queueOf, leftSet, onRows}
 use Rattle.rows.proofs.Range.{behind, beyond, set-behind}
-use Rattle.tables.specs.Time.{grown, usagePassed, passed}
+use Rattle.tables.specs.Time.{usagePassed, passed}
 use Rattle.changes.specs.Commands.{blockedRow, blockOf}
 use Rattle.marks.specs.Marks.{markedRow, marked}
 use Rattle.pulses.specs.Pulses.{switched}

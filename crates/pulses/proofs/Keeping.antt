@@ -1,8 +1,8 @@
 -- What passing time, a change of relays, the marks and a store to the queue's row all keep, pulses keep: a request, and time with its ends and
 -- beginnings. Assumes nothing.
-use mathlib.Core.Bool.{Bool, true, false, cond}
+use mathlib.Core.Bool.{Bool}
 use mathlib.Core.List.{List}
-use Prim.Native.Nat.{ℕ, zero, suc, _-_, _%_, _^_}
+use Prim.Native.Nat.{ℕ, zero, suc}
 use lib.ListN.{set}
 use Rattle.laws.proofs.Tests.{by-cases}
 use Rattle.rows.specs.declared.Queue.{Queue}
@@ -11,7 +11,7 @@ use Rattle.tables.specs.Time.{passed}
 use Rattle.changes.specs.Commands.{blockOf}
 use Rattle.marks.specs.Marks.{marked}
 use Rattle.pulses.specs.declared.Pulse.{Pulse}
-use Rattle.pulses.specs.Pulses.{pulseAt, place, runs, endsWithin, statesOf, switched, beginning, begun, popped, ended, followed, turned, waited, tick, elapsed, joined, accepted}
+use Rattle.pulses.specs.Pulses.{runs, endsWithin, switched, begun, ended, turned, waited, tick, elapsed, accepted}
 
 pub record Keeps (P : Board → Type 0) : Type 0 where
   pub time : (d : ℕ) (b : Board) → P b → P (passed d b)

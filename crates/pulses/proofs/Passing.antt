@@ -1,14 +1,15 @@
 -- A call of time, as a loop: each turn goes to the end of the running pulse.
 --     Passing         its invariant: what the ms that are left lead to is what all ms do
 --     passing-start, passing-turn, passing-done
+--     has-row, told-again, queue-ended, one-gone, stays-waited   what is there of a queue, and what an end and a wait leave of it
 -- Assumes nothing.
 use mathlib.Core.Path.{_≡_, refl, sym, ap, _∙_}
-use mathlib.Core.Bool.{Bool, true, false, true≢false, cond, _&&_}
+use mathlib.Core.Bool.{true, false, true≢false, cond}
 use mathlib.Core.List.{List, [], _∷_}
 use Prim.Native.Nat.{ℕ, zero, suc, _-_, _≤_, _<_, min}
 use native.Mathlib.Omega.{arith}
-use lib.Dec.{leb, ltb}
-use lib.ListN.{length, set}
+use lib.Dec.{ltb}
+use lib.ListN.{length}
 use lib.Seq.{getD-set-same}
 use borrow.Author.Tests.{leb-true, ltb-true, ltb-false}
 use Rattle.laws.proofs.Tests.{by-cases}
@@ -20,7 +21,7 @@ use Rattle.tables.specs.Time.{passed}
 use Rattle.pulses.specs.declared.Pulse.{Pulse}
 use Rattle.pulses.specs.declared.Time.{Time}
 use Rattle.pulses.specs.Pulses.{pulseAt, shortRow, place, runs, standing, lasts, endsWithin, statesOf, beginning, begun, popped, ended, followed, turned, waited, elapsed}
-use Rattle.pulses.specs.Passing.{Going, onward, startOf, turnOf, Goes}
+use Rattle.pulses.specs.Passing.{onward, startOf, turnOf, Goes}
 use Rattle.pulses.proofs.Apart.{queue-passed, queue-switched}
 use Rattle.pulses.proofs.Ticks.{left-told, quiet, jump}
 
@@ -86,7 +87,7 @@ module _ {row : List Pulse} {d : ℕ} {b : Board} where
 
 -- ---- a turn
 
-no-row : (n : ℕ) (b : Board) → length b ≤ n → rowAt n b ≡ []
+pub no-row : (n : ℕ) (b : Board) → length b ≤ n → rowAt n b ≡ []
 no-row n [] h = refl
 no-row zero (row ∷ b) h = absurd (omega arith)
 no-row (suc n) (row ∷ b) h = no-row n b (omega arith)
@@ -102,7 +103,7 @@ pub told-again : (q : Queue) (b : Board) → queueRow < length b → queueOf (pu
 unfolding queueOf putQueue
 told-again q b h = ap queueIn (getD-set-same b queueRow (queueWords q) [] h)
 
-queue-ended : (p : Pulse) (b : Board) → runs (queueOf b) ≡ true → queueOf (ended p b) ≡ popped (queueOf b)
+pub queue-ended : (p : Pulse) (b : Board) → runs (queueOf b) ≡ true → queueOf (ended p b) ≡ popped (queueOf b)
 unfolding ended
 queue-ended p b r = queue-switched _ _ _ ∙ told-again (popped (queueOf b)) b (has-row b r)
 
@@ -114,11 +115,11 @@ stays-followed : (next : Pulse) (b : Board) → queueOf (followed next b) .stand
 stays-followed next b = by-cases (runs (queueOf b)) (λ r. rw r (stays-begun next b r)) (λ r. rw r)
 
 -- an end frees a place
-one-gone : (p next : Pulse) (b : Board) → runs (queueOf b) ≡ true → queueOf (turned p next b) .standing ≡ waiting b - 1
+pub one-gone : (p next : Pulse) (b : Board) → runs (queueOf b) ≡ true → queueOf (turned p next b) .standing ≡ waiting b - 1
 unfolding turned
 one-gone p next b r = stays-followed next (ended p b) ∙ ap (λ (q : Queue). q .standing) (queue-ended p b r)
 
-stays-waited : (k : ℕ) (b : Board) → queueOf (waited k b) .standing ≡ queueOf b .standing
+pub stays-waited : (k : ℕ) (b : Board) → queueOf (waited k b) .standing ≡ queueOf b .standing
 unfolding waited
 stays-waited k b =
     by-cases (runs (queueOf b))

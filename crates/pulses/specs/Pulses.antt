@@ -4,7 +4,7 @@ use mathlib.Core.Bool.{Bool, cond, _&&_}
 use mathlib.Core.List.{List}
 use Prim.Native.Nat.{ℕ, zero, suc, _+_, _-_, _%_, _^_, min, max}
 use lib.Dec.{leb, ltb}
-use lib.ListN.{getD}
+use lib.ListN.{getD, set}
 use Rattle.laws.specs.Times.{times}
 use Rattle.rows.specs.declared.Queue.{Queue}
 use Rattle.rows.specs.Places.{Board, isChannel, relayAt, queueOf, putQueue, leftSet}
@@ -141,3 +141,10 @@ newest b = pulseOf (queueOf b .mask % 2 ^ 16) (queueOf b .states % 2 ^ 16) (queu
 -- 02, M-100, 5: its place in the row, where there is one more behind a message than before it; else none, behind the row's end
 unfoldable pub seatOf : ℕ → Queue → Queue → ℕ
 seatOf records before after = cond (ltb (before .standing) (after .standing)) (place after (after .standing - 1)) records
+
+-- 02, M-100, 5: the row of pulses after a message: the request that it added to the queue, if one, stands behind the last; every other record
+-- stays
+unfoldable pub rowAfter : Board → Board → List Pulse → List Pulse
+rowAfter b b′ row =
+    let after : Queue = queueOf b′ in
+    cond (ltb (queueOf b .standing) (after .standing)) (set row (place after (after .standing - 1)) (newest b′)) row

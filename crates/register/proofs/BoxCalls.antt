@@ -17,12 +17,12 @@ use Rattle.framing.proofs.Turns.{length-run}
 use Rattle.rows.specs.Rows.{lineIn, lineWords, shutLine}
 use Rattle.rows.specs.Places.{Board, isConnection, rowAt, lineAt, putLine, linePlace, queueOf}
 use Rattle.pulses.specs.declared.Pulse.{Pulse}
-use Rattle.pulses.specs.Pulses.{shortRow}
+use Rattle.pulses.specs.Pulses.{shortRow, rowAfter}
 use Rattle.plain.specs.Lines.{openedLine, isOpen}
 use Rattle.plain.specs.Events.{tooShort, connected, closed}
 use Rattle.board.specs.Halves.{Halves, halfAt, putHalf}
 use Rattle.board.specs.Rooms.{roomAt, putRoom}
-use Rattle.board.specs.Calls.{dropped, answered, fed, fedCall, bytesCall, halvesAfter, roomsAfter, rowAfter}
+use Rattle.board.specs.Calls.{dropped, answered, fed, fedCall, bytesCall, halvesAfter, roomsAfter}
 use Rattle.register.specs.Box.{Reply, Tables, refusalOf}
 use Rattle.register.proofs.Cases.{bytes-cases, connect-cases, close-cases}
 use Rattle.register.proofs.Touching.{Touches, still, line-apart, message-touches}

@@ -25,14 +25,14 @@ use Rattle.readings.proofs.Lengths.{length-monitor}
 use Rattle.rows.specs.Places.{Board, lineAt}
 use Rattle.laws.proofs.Tests.{by-cases}
 use Rattle.pulses.specs.declared.Pulse.{Pulse}
-use Rattle.pulses.specs.Pulses.{shortRow}
+use Rattle.pulses.specs.Pulses.{shortRow, rowAfter}
 use Rattle.plain.specs.Events.{Did, framed, leveled, timePassed, connected, closed, monitorSent}
 use Rattle.serving.specs.Obeying.{obeyed}
 use Rattle.serving.specs.Serving.{servedContent, servedMessage}
 use Rattle.serving.proofs.Lengths as serving
 use Rattle.board.specs.Halves.{Halves}
 use Rattle.board.specs.declared.Done.{Done}
-use Rattle.board.specs.Calls.{Effect, Ends, Answers, answered, fed, levelCall, passCall, connectCall, closeCall, collectCall, bytesCall, halvesAfter, roomsAfter, rowAfter}
+use Rattle.board.specs.Calls.{Effect, Ends, Answers, answered, fed, levelCall, passCall, connectCall, closeCall, collectCall, bytesCall, halvesAfter, roomsAfter}
 use Rattle.board.proofs.power_up.Reads as power-up
 use Rattle.board.proofs.level.Reads as level
 use Rattle.board.proofs.connect.Reads as connect

@@ -13,8 +13,7 @@ use Rattle.framing.specs.Cut.{Got}
 use Rattle.framing.specs.Reading.{start, Run, gotOf, halfAfter}
 use Rattle.framing.proofs.Turns.{length-run}
 use Rattle.rows.specs.declared.Line.{Line}
-use Rattle.rows.specs.Places.{Board}
-use Rattle.pulses.specs.Pulses.{shortRow}
+use Rattle.pulses.specs.Pulses.{shortRow, rowAfter}
 use Rattle.plain.specs.Lines.{isOpen}
 use Rattle.plain.specs.Events as plain
 use Rattle.plain.specs.Events.{Did, tooShort, connected, closed}
@@ -22,7 +21,7 @@ use Rattle.serving.specs.Serving.{servedMessage}
 use Rattle.plain.proofs.Lines.{open-below}
 use Rattle.board.specs.Halves.{halfAt}
 use Rattle.board.specs.Rooms.{roomAt}
-use Rattle.board.specs.Calls.{answered, fed, levelCall, passCall, connectCall, closeCall, collectCall, bytesCall, halvesAfter, roomsAfter, rowAfter}
+use Rattle.board.specs.Calls.{answered, fed, levelCall, passCall, connectCall, closeCall, collectCall, bytesCall, halvesAfter, roomsAfter}
 use Rattle.board.proofs.Keeping as keeping
 use Rattle.board.proofs.Rooms.{room-long, room-again}
 use Rattle.demand.specs.Plain.{OnlyOpen}

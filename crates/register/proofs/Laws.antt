@@ -26,7 +26,7 @@ use Rattle.framing.specs.Reading.{Run, gotOf}
 use Rattle.rows.specs.Rows.{word}
 use Rattle.rows.specs.Places.{Board, rowAt, lineAt, clockSet, clockRow}
 use Rattle.pulses.specs.declared.Pulse.{Pulse}
-use Rattle.pulses.specs.Pulses.{shortRow, elapsed}
+use Rattle.pulses.specs.Pulses.{shortRow, elapsed, rowAfter}
 use Rattle.layouts.specs.declared.Order.{Order}
 use Rattle.layouts.specs.declared.Order.the-variants.{Refused, SetClock}
 use Rattle.layouts.specs.Layouts.{judgeSetClock}
@@ -36,7 +36,7 @@ use Rattle.plain.specs.Events.{Did, did, refused, leveled, timePassed, connecte
 use Rattle.serving.specs.Obeying.{clockTold, obeyed}
 use Rattle.serving.specs.Serving.{servedContent, servedMessage}
 use Rattle.board.specs.Halves.{Halves, halfAt}
-use Rattle.board.specs.Calls.{dropped, answered, fed, levelCall, passCall, connectCall, closeCall, collectCall, bytesCall, rowAfter}
+use Rattle.board.specs.Calls.{dropped, answered, fed, levelCall, passCall, connectCall, closeCall, collectCall, bytesCall}
 use Rattle.demand.specs.Demand.{Call, bytes, other}
 use Rattle.register.specs.Box.{Event, level, pass, connect, close, collect, Tables, happens, served, beforeBytes, Held, held, tablesOf, eventCall, effectOf, halvesOf, boxCall}
 use Rattle.register.specs.Laws.{TypeSeven, ButClock, Untouched, eventOn, callOn, Kept}

@@ -1,4 +1,5 @@
 pub mod Cases
+pub mod Moving
 pub mod Touching
 pub mod Numbers
 pub mod Queue

@@ -6,44 +6,33 @@
 use mathlib.Core.Path.{_≡_, refl, ap, _∙_}
 use mathlib.Core.Bool.{Bool, true, false}
 use mathlib.Core.List.{List, []}
-use Prim.Native.Nat.{ℕ, zero, suc, _+_, _≤_, _<_}
+use Prim.Native.Nat.{ℕ, _+_, _≤_, _<_}
 use native.Mathlib.Omega.{arith}
 use borrow.Author.Tests.{ltb-true}
-use lib.Dec.{eqb, ltb}
 use lib.ListN.{set}
 use lib.Seq.{getD-set-other}
 use Rattle.laws.proofs.Tests.{by-cases}
 use Rattle.framing.specs.Cut.{Got, keepAlive, stray, tooLong, frame}
 use Rattle.layouts.specs.declared.Order.{Order}
 use Rattle.layouts.specs.declared.Order.the-variants.{Refused, Clock, Monitor, Usage, MonitorOff, MonitorOn, SetClock, Close, Open, Toggle, ClearCount, ClearInputUsage, ClearRelayUsage, Block, PulseRelay, PulseBlock, Read, Write, Enumerate}
-use Rattle.rows.specs.declared.Input.{Input}
-use Rattle.rows.specs.declared.Relay.{Relay}
 use Rattle.rows.specs.declared.Line.{Line}
 use Rattle.rows.specs.declared.Queue.{Queue}
 use Rattle.rows.specs.Rows.{queueIn}
-use Rattle.rows.specs.Places.{Board, isChannel, isConnection, rowAt, inputAt, relayAt, lineAt, putInput, putRelay, putLine, clockSet, onRows, inputPlace, relayPlace, linePlace, firstRelay, firstLine, clockRow, queueRow, queueOf}
-use Rattle.rows.proofs.Channel.{in-range}
+use Rattle.rows.specs.Places.{Board, isConnection, rowAt, lineAt, putLine, onRows, linePlace, firstLine, queueRow, queueOf}
 use Rattle.rows.proofs.Range.{beyond}
-use Rattle.tables.specs.declared.Device.{Device}
-use Rattle.tables.specs.declared.Device.the-variants.{Din, Rout, Unknown}
-use Rattle.tables.specs.Devices.{deviceOf}
-use Rattle.changes.specs.Answers.{onInput, onRelay}
-use Rattle.changes.specs.Levels.{hasLevel, levelOf}
-use Rattle.changes.specs.Commands.{blockedRow, blockOf}
-use Rattle.changes.specs.Entries.{relayFails, writeInput, writeRelay}
-use Rattle.orders.specs.declared.Entry.{Entry}
-use Rattle.orders.specs.Entries.{entryOf}
+use Rattle.changes.specs.Levels.{levelOf}
 use Rattle.orders.specs.Orders.{orderOf}
-use Rattle.writes.specs.Writes.{Entered, inputSizeFits, relaySizeFits, deviceDone, soFar, entryNoted, writtenFrom}
+use Rattle.writes.specs.Writes.{soFar}
 use Rattle.marks.specs.Marks.{markedRow, marked}
 use Rattle.pulses.specs.declared.Pulse.{Pulse}
 use Rattle.pulses.specs.Pulses.{pulseOf, relayPulse, runs, isFull, joined, accepted}
 use Rattle.pulses.proofs.Passing.{has-row, told-again}
 use Rattle.plain.specs.Lines.{openedLine}
-use Rattle.plain.specs.Events.{leveled, connected, closed, monitorSent, collected}
+use Rattle.plain.specs.Events.{leveled, monitorSent}
 use Rattle.serving.specs.Obeying.{monitorSet, clockTold, pulsed, obeyed}
 use Rattle.serving.specs.Serving.{servedContent, servedMessage}
-use Rattle.register.specs.Box.{Event, level, pass, connect, close, collect, Tables, happens}
+use Rattle.register.specs.Box.{Event, level, connect, close, collect, Tables, happens}
+use Rattle.register.proofs.Moving.{Leaves, clock-stays, block-stays, on-input, on-relay, level-stays, written-stays}
 use Rattle.register.proofs.Cases.{frame-cases, connect-cases, close-cases, collect-cases}
 
 -- every word of the queue's row is as it was
@@ -62,59 +51,15 @@ store n b r h = record { row = getD-set-other b n queueRow r [] (λ e. omega ari
 change : (from n : ℕ) (f : ℕ → List ℕ → List ℕ) (b : Board) → from + n ≤ queueRow → Beside b (onRows from n f b)
 change from n f b h = record { row = beyond from n queueRow f b h }
 
--- ---- records, changes and marks
+leaves-queue : Leaves Beside
+leaves-queue =
+    record { same = same; then = then; store = λ n b r h. store n b r (omega arith); change = λ from n f b h. change from n f b (omega arith) }
 
-input-beside : (k : ℕ) (i : Input) (b : Board) → Beside b (putInput k i b)
-unfolding putInput
-input-beside k i b = by-cases (isChannel k) (λ h. rw h (store (inputPlace k) b _ (omega (arith, in-range k refl h)))) (λ h. rw h (same b))
-
-relay-beside : (k : ℕ) (r : Relay) (b : Board) → Beside b (putRelay k r b)
-unfolding putRelay
-relay-beside k r b = by-cases (isChannel k) (λ h. rw h (store (relayPlace k) b _ (omega (arith, in-range k refl h)))) (λ h. rw h (same b))
+-- ---- a connection's row, and the marks
 
 line-beside : (c : ℕ) (l : Line) (b : Board) → Beside b (putLine c l b)
 unfolding putLine
 line-beside c l b = by-cases (isConnection c) (λ h. rw h (store (linePlace c) b _ (omega (arith, ltb-true c 4 h)))) (λ h. rw h (same b))
-
-clock-beside : (v : ℕ) (b : Board) → Beside b (clockSet v b)
-unfolding clockSet
-clock-beside v b = store clockRow b _ (omega arith)
-
-on-input : (f : Input → Input) (k : ℕ) (b : Board) → Beside b (onInput f k b .board)
-unfolding onInput
-on-input f k b = by-cases (isChannel k) (λ h. rw h (input-beside k (f (inputAt k b)) b)) (λ h. rw h (same b))
-
-on-relay : (f : Relay → Relay) (k : ℕ) (b : Board) → Beside b (onRelay f k b .board)
-unfolding onRelay
-on-relay f k b = by-cases (isChannel k) (λ h. rw h (relay-beside k (f (relayAt k b)) b)) (λ h. rw h (same b))
-
-level-beside : (k v : ℕ) (b : Board) → Beside b (levelOf k v b .board)
-unfolding levelOf
-level-beside k v b =
-    by-cases (ltb 1 v) (λ h. rw h (same b)) (λ h. rw h (by-cases (hasLevel k (eqb v 1) b) (λ q. rw q (same b)) (λ q. rw q (on-input _ k b))))
-
-block-beside : (mask states : ℕ) (b : Board) → Beside b (blockOf mask states b .board)
-unfolding blockOf
-block-beside mask states b = change firstRelay 8 (blockedRow mask states) b (omega arith)
-
-device-beside : (d : Device) (e : Entry) (b : Board) → Beside b (deviceDone d e b .board)
-unfolding deviceDone writeInput writeRelay
-device-beside (Din k) e b =
-    by-cases (inputSizeFits (e .size) (e .flags))
-    (λ h. rw h (by-cases (ltb 7 (e .flags)) (λ q. rw q (same b)) (λ q. rw q (on-input _ k b))))
-    (λ h. rw h (same b))
-device-beside (Rout k) e b =
-    by-cases (relaySizeFits (e .size) (e .flags))
-    (λ h. rw h (by-cases (relayFails (e .flags) (e .state)) (λ q. rw q (same b)) (λ q. rw q (on-relay _ k b))))
-    (λ h. rw h (same b))
-device-beside Unknown e b = same b
-
-written-beside : (content : List ℕ) (at n : ℕ) (w : Entered) → Beside (w .board) (writtenFrom content at n w .board)
-unfolding writtenFrom
-written-beside content at zero w = same (w .board)
-written-beside content at (suc n) w =
-    then (device-beside (deviceOf (entryOf content at .id)) (entryOf content at) (w .board))
-    (written-beside content (entryOf content at .next) n (entryNoted content at w))
 
 follows : (changed : Bool) {b b′ : Board} → Beside b b′ → Beside b (marked changed b′)
 unfolding marked
@@ -132,7 +77,7 @@ pub data Timeless : Event → Type 0 where
 
 pub queue-event : {e : Event} → Timeless e → (t : Tables) → Beside (t .board) (happens e t .board)
 unfolding leveled monitorSent
-queue-event (telling k v) t = follows (levelOf k v (t .board) .changed) (level-beside k v (t .board))
+queue-event (telling k v) t = follows (levelOf k v (t .board) .changed) (level-stays leaves-queue k v (t .board))
 queue-event (opening c rank) t =
     let b : Board = t .board in
     connect-cases c b rank (λ d. Beside b (d .board)) (same b) (same b) (same b) (λ u. line-beside c (openedLine rank) b)
@@ -160,18 +105,18 @@ obeyed-asks c s Monitor b = nothing (same b)
 obeyed-asks c s Usage b = nothing (same b)
 obeyed-asks c s MonitorOff b = nothing (line-beside c _ b)
 obeyed-asks c s MonitorOn b = nothing (line-beside c _ b)
-obeyed-asks c s (SetClock v) b = nothing (clock-beside v b)
-obeyed-asks c s (Close k) b = nothing (follows _ (on-relay _ k b))
-obeyed-asks c s (Open k) b = nothing (follows _ (on-relay _ k b))
-obeyed-asks c s (Toggle k) b = nothing (follows _ (on-relay _ k b))
-obeyed-asks c s (ClearCount k) b = nothing (follows _ (on-input _ k b))
-obeyed-asks c s (ClearInputUsage k) b = nothing (follows _ (on-input _ k b))
-obeyed-asks c s (ClearRelayUsage k) b = nothing (follows _ (on-relay _ k b))
-obeyed-asks c s (Block mask states) b = nothing (follows _ (block-beside mask states b))
+obeyed-asks c s (SetClock v) b = nothing (clock-stays leaves-queue v b)
+obeyed-asks c s (Close k) b = nothing (follows _ (on-relay leaves-queue _ k b))
+obeyed-asks c s (Open k) b = nothing (follows _ (on-relay leaves-queue _ k b))
+obeyed-asks c s (Toggle k) b = nothing (follows _ (on-relay leaves-queue _ k b))
+obeyed-asks c s (ClearCount k) b = nothing (follows _ (on-input leaves-queue _ k b))
+obeyed-asks c s (ClearInputUsage k) b = nothing (follows _ (on-input leaves-queue _ k b))
+obeyed-asks c s (ClearRelayUsage k) b = nothing (follows _ (on-relay leaves-queue _ k b))
+obeyed-asks c s (Block mask states) b = nothing (follows _ (block-stays leaves-queue mask states b))
 obeyed-asks c s (PulseRelay k ms) b = pulsed-asks (relayPulse k ms) b
 obeyed-asks c s (PulseBlock mask states ms) b = pulsed-asks (pulseOf mask states ms) b
 obeyed-asks c s (Read n) b = nothing (same b)
-obeyed-asks c s (Write n) b = nothing (follows _ (written-beside s 3 n (soFar b 0 false)))
+obeyed-asks c s (Write n) b = nothing (follows _ (written-stays leaves-queue s 3 n (soFar b 0 false)))
 obeyed-asks c s (Enumerate flags) b = nothing (same b)
 
 pub queue-message : (c : ℕ) (g : Got) (b : Board) → Asked b (servedMessage c g b .board)

@@ -5,36 +5,24 @@
 use mathlib.Core.Path.{_≡_, refl, ap, _∙_}
 use mathlib.Core.Bool.{Bool, true, false, cond}
 use mathlib.Core.List.{List, [], _∷_}
-use Prim.Native.Nat.{ℕ, zero, suc, _+_, _-_, _≤_, _<_}
+use Prim.Native.Nat.{ℕ, zero, suc, _+_, _≤_, _<_}
 use native.Mathlib.Omega.{arith}
 use borrow.Author.Tests.{eqb-false, ltb-true}
-use lib.Dec.{eqb, ltb}
+use lib.Dec.{eqb}
 use lib.ListN.{length, set}
 use lib.Seq.{getD-set-other}
 use Rattle.laws.proofs.Tests.{by-cases}
 use Rattle.framing.specs.Cut.{Got, keepAlive, stray, tooLong, frame}
 use Rattle.layouts.specs.declared.Order.{Order}
 use Rattle.layouts.specs.declared.Order.the-variants.{Refused, Clock, Monitor, Usage, MonitorOff, MonitorOn, SetClock, Close, Open, Toggle, ClearCount, ClearInputUsage, ClearRelayUsage, Block, PulseRelay, PulseBlock, Read, Write, Enumerate}
-use Rattle.rows.specs.declared.Input.{Input}
-use Rattle.rows.specs.declared.Relay.{Relay}
 use Rattle.rows.specs.declared.Line.{Line}
-use Rattle.rows.specs.Places.{Board, isChannel, isConnection, rowAt, inputAt, relayAt, lineAt, putInput, putRelay, putLine, clockSet, onRows, inputPlace, relayPlace, linePlace, firstInput, firstRelay, firstLine, clockRow, queueRow, queueOf}
+use Rattle.rows.specs.Places.{Board, isConnection, rowAt, lineAt, putLine, onRows, linePlace, firstLine, queueRow, queueOf}
 use Rattle.rows.specs.Rows.{lineIn, lineWords, shutLine}
-use Rattle.rows.proofs.Channel.{in-range}
 use Rattle.rows.proofs.Range.{beyond}
 use Rattle.rows.proofs.Views.{flag-again, line-again}
-use Rattle.tables.specs.declared.Device.{Device}
-use Rattle.tables.specs.declared.Device.the-variants.{Din, Rout, Unknown}
-use Rattle.tables.specs.Devices.{deviceOf}
-use Rattle.tables.specs.Time.{usagePassed, passed}
-use Rattle.changes.specs.Answers.{onInput, onRelay}
-use Rattle.changes.specs.Levels.{hasLevel, levelOf}
-use Rattle.changes.specs.Commands.{blockedRow, blockOf}
-use Rattle.changes.specs.Entries.{relayFails, writeInput, writeRelay}
-use Rattle.orders.specs.declared.Entry.{Entry}
-use Rattle.orders.specs.Entries.{entryOf}
+use Rattle.changes.specs.Levels.{levelOf}
 use Rattle.orders.specs.Orders.{orderOf}
-use Rattle.writes.specs.Writes.{Entered, inputSizeFits, relaySizeFits, deviceDone, soFar, entryNoted, writtenFrom}
+use Rattle.writes.specs.Writes.{soFar}
 use Rattle.pulses.specs.declared.Pulse.{Pulse}
 use Rattle.pulses.specs.Pulses.{pulseOf, relayPulse, shortRow, isFull}
 use Rattle.pulses.proofs.Keeping.{Keeps, elapsed-keeps, accepted-keeps}
@@ -43,6 +31,7 @@ use Rattle.marks.specs.Marks.{withDue, watches, markedRow, marked}
 use Rattle.plain.specs.Events.{leveled, timePassed, monitorSent, collected}
 use Rattle.serving.specs.Obeying.{monitorSet, clockTold, pulsed, obeyed}
 use Rattle.serving.specs.Serving.{servedContent, servedMessage}
+use Rattle.register.proofs.Moving.{Leaves, clock-stays, passed-stays, block-stays, on-input, on-relay, level-stays, written-stays}
 use Rattle.register.proofs.Cases.{frame-cases, collect-cases}
 
 -- each connection is as it was, its mark aside
@@ -111,15 +100,12 @@ before-lines n h d l e = omega arith
 change : (from n : ℕ) (f : ℕ → List ℕ → List ℕ) (b : Board) → from + n ≤ firstLine → Unmarked b (onRows from n f b)
 change from n f b h = record { at = by-rows (withDue false) b (onRows from n f b) (λ d l. ap unmarked (beyond from n (linePlace d) f b (omega arith))) }
 
--- ---- records
+-- a store and a change of rows before the connections'
+connections-stay : Leaves Unmarked
+connections-stay =
+    record { same = same; then = then; store = λ n b r h. store n b r (before-lines n h); change = change }
 
-input-stays : (k : ℕ) (i : Input) (b : Board) → Unmarked b (putInput k i b)
-unfolding putInput
-input-stays k i b = by-cases (isChannel k) (λ h. rw h (store (inputPlace k) b _ (before-lines (inputPlace k) (omega (arith, in-range k refl h))))) (λ h. rw h (same b))
-
-relay-stays : (k : ℕ) (r : Relay) (b : Board) → Unmarked b (putRelay k r b)
-unfolding putRelay
-relay-stays k r b = by-cases (isChannel k) (λ h. rw h (store (relayPlace k) b _ (before-lines (relayPlace k) (omega (arith, in-range k refl h))))) (λ h. rw h (same b))
+-- ---- a connection's own row
 
 line-open : (c : ℕ) (b : Board) → isConnection c ≡ true → lineAt c b .isOpen ≡ opened (rowAt (linePlace c) b)
 unfolding lineAt
@@ -147,43 +133,7 @@ line-as-open c l b e d = by-cases (isConnection c) (λ h. rw h (by-rows (λ x. x
 line-touches : (c : ℕ) (l : Line) (b : Board) → l .isOpen ≡ lineAt c b .isOpen → Touches c b (putLine c l b)
 line-touches c l b e = record { as-open = line-as-open c l b e; others = λ d n. ap (withDue false) (line-apart c d l b n) }
 
-clock-stays : (v : ℕ) (b : Board) → Unmarked b (clockSet v b)
-unfolding clockSet
-clock-stays v b = store clockRow b _ (before-lines clockRow (omega arith))
-
--- ---- changes
-
-on-input : (f : Input → Input) (k : ℕ) (b : Board) → Unmarked b (onInput f k b .board)
-unfolding onInput
-on-input f k b = by-cases (isChannel k) (λ h. rw h (input-stays k (f (inputAt k b)) b)) (λ h. rw h (same b))
-
-on-relay : (f : Relay → Relay) (k : ℕ) (b : Board) → Unmarked b (onRelay f k b .board)
-unfolding onRelay
-on-relay f k b = by-cases (isChannel k) (λ h. rw h (relay-stays k (f (relayAt k b)) b)) (λ h. rw h (same b))
-
-level-stays : (k v : ℕ) (b : Board) → Unmarked b (levelOf k v b .board)
-unfolding levelOf
-level-stays k v b =
-    by-cases (ltb 1 v) (λ h. rw h (same b)) (λ h. rw h (by-cases (hasLevel k (eqb v 1) b) (λ q. rw q (same b)) (λ q. rw q (on-input _ k b))))
-
-device-stays : (d : Device) (e : Entry) (b : Board) → Unmarked b (deviceDone d e b .board)
-unfolding deviceDone writeInput writeRelay
-device-stays (Din k) e b =
-    by-cases (inputSizeFits (e .size) (e .flags))
-    (λ h. rw h (by-cases (ltb 7 (e .flags)) (λ q. rw q (same b)) (λ q. rw q (on-input _ k b))))
-    (λ h. rw h (same b))
-device-stays (Rout k) e b =
-    by-cases (relaySizeFits (e .size) (e .flags))
-    (λ h. rw h (by-cases (relayFails (e .flags) (e .state)) (λ q. rw q (same b)) (λ q. rw q (on-relay _ k b))))
-    (λ h. rw h (same b))
-device-stays Unknown e b = same b
-
-written-stays : (content : List ℕ) (at n : ℕ) (w : Entered) → Unmarked (w .board) (writtenFrom content at n w .board)
-unfolding writtenFrom
-written-stays content at zero w = same (w .board)
-written-stays content at (suc n) w =
-    then (device-stays (deviceOf (entryOf content at .id)) (entryOf content at) (w .board))
-    (written-stays content (entryOf content at .next) n (entryNoted content at w))
+-- ---- marks
 
 mark-alone : (row : List ℕ) → unmarked (markedRow row) ≡ unmarked row
 unfolding markedRow
@@ -203,24 +153,14 @@ follows changed b b′ e = then e (marked-stays changed b′)
 
 pub level-event : (k v : ℕ) (b : Board) → Unmarked b (leveled k v b .board)
 unfolding leveled
-level-event k v b = follows (levelOf k v b .changed) b (levelOf k v b .board) (level-stays k v b)
-
-passed-stays : (d : ℕ) (b : Board) → Unmarked b (passed d b)
-unfolding passed
-passed-stays d b =
-    let n : ℕ = clockRow - firstInput in
-    then (change firstInput n (λ _. usagePassed d) b (omega arith)) (clock-stays _ (onRows firstInput n (λ _. usagePassed d) b))
-
-block-stays : (mask states : ℕ) (b : Board) → Unmarked b (blockOf mask states b .board)
-unfolding blockOf
-block-stays mask states b = change firstRelay 8 (blockedRow mask states) b (omega arith)
+level-event k v b = follows (levelOf k v b .changed) b (levelOf k v b .board) (level-stays connections-stay k v b)
 
 -- pulses leave the connections as all they are made of does
 pulses-stay : (b : Board) → Keeps (Unmarked b)
 pulses-stay b =
     record {
-      time = λ d z e. then e (passed-stays d z);
-      change = λ mask states z e. then e (block-stays mask states z);
+      time = λ d z e. then e (passed-stays connections-stay d z);
+      change = λ mask states z e. then e (block-stays connections-stay mask states z);
       marks = λ changed z e. then e (marked-stays changed z);
       store = λ row z e. then e (store queueRow z row (λ d l q. omega arith));
     }
@@ -252,18 +192,18 @@ obeyed-touches c s Monitor b = still
 obeyed-touches c s Usage b = still
 obeyed-touches c s MonitorOff b = line-touches c _ b refl
 obeyed-touches c s MonitorOn b = line-touches c _ b refl
-obeyed-touches c s (SetClock v) b = quiet (clock-stays v b)
-obeyed-touches c s (Close k) b = makes _ b _ (on-relay _ k b)
-obeyed-touches c s (Open k) b = makes _ b _ (on-relay _ k b)
-obeyed-touches c s (Toggle k) b = makes _ b _ (on-relay _ k b)
-obeyed-touches c s (ClearCount k) b = makes _ b _ (on-input _ k b)
-obeyed-touches c s (ClearInputUsage k) b = makes _ b _ (on-input _ k b)
-obeyed-touches c s (ClearRelayUsage k) b = makes _ b _ (on-relay _ k b)
-obeyed-touches c s (Block mask state) b = makes _ b _ (block-stays mask state b)
+obeyed-touches c s (SetClock v) b = quiet (clock-stays connections-stay v b)
+obeyed-touches c s (Close k) b = makes _ b _ (on-relay connections-stay _ k b)
+obeyed-touches c s (Open k) b = makes _ b _ (on-relay connections-stay _ k b)
+obeyed-touches c s (Toggle k) b = makes _ b _ (on-relay connections-stay _ k b)
+obeyed-touches c s (ClearCount k) b = makes _ b _ (on-input connections-stay _ k b)
+obeyed-touches c s (ClearInputUsage k) b = makes _ b _ (on-input connections-stay _ k b)
+obeyed-touches c s (ClearRelayUsage k) b = makes _ b _ (on-relay connections-stay _ k b)
+obeyed-touches c s (Block mask state) b = makes _ b _ (block-stays connections-stay mask state b)
 obeyed-touches c s (PulseRelay k ms) b = quiet (pulsed-stays (relayPulse k ms) b)
 obeyed-touches c s (PulseBlock mask states ms) b = quiet (pulsed-stays (pulseOf mask states ms) b)
 obeyed-touches c s (Read n) b = still
-obeyed-touches c s (Write n) b = makes _ b _ (written-stays s 3 n (soFar b 0 false))
+obeyed-touches c s (Write n) b = makes _ b _ (written-stays connections-stay s 3 n (soFar b 0 false))
 obeyed-touches c s (Enumerate flags) b = still
 
 pub message-touches : (c : ℕ) (g : Got) (b : Board) → Touches c b (servedMessage c g b .board)

@@ -42,10 +42,10 @@ use denote.Triple.Walked.{Stays, gave-ref, gave-slice, stay-none, stay-none-slic
 use denote.Exit.{yes}
 use Rattle.rows.specs.Places.{Board, queueOf}
 use Rattle.pulses.specs.declared.Pulse.{Pulse}
-use Rattle.pulses.specs.Pulses.{seatOf, newest}
+use Rattle.pulses.specs.Pulses.{seatOf, newest, rowAfter}
 use Rattle.board.specs.declared.Done.{Done}
 use Rattle.board.specs.declared.Taken.{Taken}
-use Rattle.board.specs.Calls.{Effect, bytesCall, halvesAfter, roomsAfter, rowAfter, Answers}
+use Rattle.board.specs.Calls.{Effect, bytesCall, halvesAfter, roomsAfter, Answers}
 use Rattle.capi.proofs.Calling.{token, told, gets, asks-one, all-said, four}
 use Rattle.capi.proofs.Types.{board-type, board-slot, board-ref}
 use Rattle.capi.proofs.Stored.{stored}

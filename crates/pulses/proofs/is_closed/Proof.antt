@@ -1,5 +1,4 @@
 -- `pulses::is_closed`. Assumes nothing.
-use mathlib.Core.Path.{refl}
 use borrow.Author.Needs.{needs}
 use Rattle.pulses.proofs.is_closed.Statement.{statement}
 use Rattle.pulses.proofs.is_closed.Tie as tie

@@ -1,5 +1,4 @@
 -- `serving::pulse`: accepted, or refused. Assumes nothing.
-use mathlib.Core.Path.{_∙_}
 use borrow.Author.Needs.{needs}
 use Rattle.serving.proofs.Silent.{pulse-gives}
 use Rattle.serving.proofs.pulse.Statement.{statement}
