@@ -10,15 +10,13 @@ use Rattle.pulses.specs.declared.Pulse.{Pulse}
 use Rattle.pulses.specs.declared.Time.{Time}
 use Rattle.pulses.specs.Pulses.{shortRow}
 use Rattle.pulses.proofs.Passing.{Passing, passing-done}
-use Rattle.board.specs.declared.Done.{Done}
 use Rattle.plain.specs.Events.{timePassed}
 use Rattle.board.specs.Calls.{passCall, passedIn, Ends}
 
-pub pass-ends : {row : List Pulse} {d : ℕ} {b z : Board} {t : Time} {r : Done} → Passing row d b t z → t .ends ≡ false → r ≡ passedIn t
-    → Ends (passCall d row b) z r
+pub pass-ends : {row : List Pulse} {d : ℕ} {b z : Board} {t : Time} → Passing row d b t z → t .ends ≡ false → Ends (passCall d row b) z (passedIn (t .answer))
 unfolding passCall timePassed
-pass-ends {row} m over gives =
+pass-ends {row} m over =
     let done = passing-done m over in
     by-cases (shortRow (length row))
-    (λ s. record { board = rw s (rw s at (done .0)); gives = rw (gives, done .1, s) refl })
-    (λ s. record { board = rw s (rw s at (done .0)); gives = rw (gives, done .1, s) refl })
+    (λ s. record { board = rw s (rw s at (done .0)); gives = rw (done .1, s) refl })
+    (λ s. record { board = rw s (rw s at (done .0)); gives = rw (done .1, s) refl })

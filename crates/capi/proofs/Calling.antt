@@ -126,6 +126,11 @@ module _ {M : Type 1} (𝓤 : URA M) where
   beside : (P : SProp 𝓤) {Q : SProp 𝓤} → ent 𝓤 (emp 𝓤) Q → ent 𝓤 P (P ∗ Q)
   beside P {Q} q = via 𝓤 (emp 𝓤 ∗ P) (emp∗ 𝓤 P) (via 𝓤 (Q ∗ P) (monoL 𝓤 P q) (comm∗ 𝓤 Q P))
 
+  -- two clauses together
+  pub both : (φ₁ φ₂ : Type 0) → ent 𝓤 (fact 𝓤 φ₁ ∗ fact 𝓤 φ₂) (fact 𝓤 (φ₁ × φ₂))
+  both φ₁ φ₂ =
+      fact-use 𝓤 φ₁ (fst∗ 𝓤 (fact 𝓤 φ₁) (fact 𝓤 φ₂)) (λ e₁. fact-use 𝓤 φ₂ (snd∗ 𝓤 (fact 𝓤 φ₁) (fact 𝓤 φ₂)) (λ e₂. factI 𝓤 (φ₁ × φ₂) _ (e₁, e₂)))
+
   module _ (φ₁ φ₂ φ₃ φ₄ : Type 0) where
     abbrev pub Four : SProp 𝓤
     Four = fact 𝓤 φ₁ ∗ fact 𝓤 φ₂ ∗ fact 𝓤 φ₃ ∗ fact 𝓤 φ₄

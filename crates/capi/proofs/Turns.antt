@@ -1,15 +1,17 @@
--- A turn of the loop in a call of time: what the calls in it say, together. Assumes nothing.
+-- A call of time: what the calls in a turn of its loop say, together, and those in front of it. Assumes nothing.
 use mathlib.Core.Path.{_≡_, ap, sym, subst, _∙_}
-use mathlib.Core.Bool.{Bool, true, false, not}
+use mathlib.Core.Bool.{Bool, true, false, not, cond}
 use mathlib.Core.List.{List}
 use Prim.Native.Nat.{ℕ, _<_}
-use lib.Dec.{T}
+use lib.Dec.{T, eqb}
+use borrow.Author.Tests.{eqb-true}
 use Rattle.rows.specs.Places.{Board}
 use Rattle.pulses.specs.declared.Pulse.{Pulse}
 use Rattle.pulses.specs.declared.Time.{Time}
 use Rattle.pulses.specs.Pulses.{pulseAt}
 use Rattle.pulses.specs.Passing.{Goes, turnOf}
 use Rattle.pulses.proofs.Passing.{Passing, waiting, passing-turn}
+use Rattle.board.specs.Calls.{passCall, passedIn, Ends}
 
 -- how the loop's test came out, whose result y is the time's
 pub going-on : (y b : Bool) → T y → y ≡ b → b ≡ true
@@ -26,3 +28,9 @@ turned row d b z z′ t t′ i j ending next m e at-i is-ending at-j is-next goe
     passing-turn m e
     (subst (λ (p : Pulse). Goes (turnOf (pulseAt row (t .first)) p t z) z′ t′) (is-next ∙ ap (pulseAt row) at-j)
     (subst (λ (p : Pulse). Goes (turnOf p next t z) z′ t′) (is-ending ∙ ap (pulseAt row) at-i) goes))
+
+-- where `pulses::at_once` has done nothing, the board is still that at entry
+pub pulsed-ends : (row : List Pulse) (d r a : ℕ) (b z z′ p : Board) → eqb r 0 ≡ true → z ≡ cond (eqb r 1) p b
+    → Ends (passCall d row z) z′ (passedIn a) → Ends (passCall d row b) z′ (passedIn a)
+pulsed-ends row d r a b z z′ p none z-is ends =
+    subst (λ (y : Board). Ends (passCall d row y) z′ (passedIn a)) (rw (eqb-true r 0 none) at z-is) ends

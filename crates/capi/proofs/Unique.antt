@@ -1,5 +1,5 @@
 -- For one input, two answers that a contract allows are equal, and so is what is left of what was lent. Assumes nothing.
-use mathlib.Core.Path.{_≡_, sym, _∙_}
+use mathlib.Core.Path.{_≡_, ap, sym, _∙_}
 use mathlib.Core.List.{List}
 use Prim.Native.Nat.{ℕ}
 use lib.ListN.{length}
@@ -9,7 +9,7 @@ use Rattle.pulses.specs.declared.Pulse.{Pulse}
 use Rattle.pulses.specs.Pulses.{rowAfter}
 use Rattle.board.specs.declared.Done.{Done}
 use Rattle.board.specs.Halves.{Halves}
-use Rattle.board.specs.Calls.{Effect, passCall, bytesCall, halvesAfter, roomsAfter, Ends, Answers}
+use Rattle.board.specs.Calls.{Effect, passCall, passedIn, bytesCall, halvesAfter, roomsAfter, Ends, Answers}
 use Rattle.board.proofs.Same.{ends, answers, halved}
 use Rattle.capi.proofs.wellacorn_power_up.Reads as power-up
 use Rattle.capi.proofs.wellacorn_level.Reads as level
@@ -27,6 +27,11 @@ unique-level κs a r r′ s s′ p q = ends p q
 pub unique-pass : (d : ℕ) (row : List Pulse) (b : Board) {b₁ b₂ : Board} {r₁ r₂ : Done} → Ends (passCall d row b) b₁ r₁ → Ends (passCall d row b) b₂ r₂
     → (r₁ ≡ r₂) × (b₁ ≡ b₂)
 unique-pass d row b p q = ends p q
+
+-- the contract of `capi::wellacorn_pass_pulsed`, written out likewise
+pub unique-pass-pulsed : (d : ℕ) (row : List Pulse) (b : Board) {b₁ b₂ : Board} {n₁ n₂ : ℕ} → Ends (passCall d row b) b₁ (passedIn n₁)
+    → Ends (passCall d row b) b₂ (passedIn n₂) → (n₁ ≡ n₂) × (b₁ ≡ b₂)
+unique-pass-pulsed d row b p q = let same = ends p q in (ap (λ (r : Done). r .answer) (same .0), same .1)
 
 pub unique-connect : (κs : _) (a : _) (r r′ : _) (s s′ : _) → connect.Post κs a r s → connect.Post κs a r′ s′
     → (r ≡ r′) × (now (s .0) ≡ now (s′ .0)) × (now (s .1 .0) ≡ now (s′ .1 .0))

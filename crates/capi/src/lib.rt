@@ -6,7 +6,7 @@ ghost use mathlib.Core.Path.{_≡_};
 ghost use lib.ListN.{length};
 ghost use Rattle.pulses.specs.Pulses.{rowAfter};
 ghost use Rattle.board.specs.PowerUp.{poweredUp};
-ghost use Rattle.board.specs.Calls.{levelCall, passCall, connectCall, closeCall, collectCall, bytesCall, dropped, halvesAfter, roomsAfter, Ends, Answers};
+ghost use Rattle.board.specs.Calls.{levelCall, passCall, passedIn, connectCall, closeCall, collectCall, bytesCall, dropped, halvesAfter, roomsAfter, Ends, Answers};
 use board::Done;
 use board::Settings;
 use pulses::Pulse;
@@ -28,10 +28,26 @@ pub extern "C" fn wellacorn_level(board: &mut [[u64; 8]; ROWS], k: u8, v: u8) ->
     board::level(board, k, v)
 }
 
-// d ms have passed. The row is looked into at the ends of pulses alone.
+// d ms have passed. Where no pulse ends in them the row is not looked into.
 #[no_mangle]
 pub extern "C" fn wellacorn_pass(board: &mut [[u64; 8]; ROWS], row: &[Pulse], d: u32) -> Done
     ensures { λ r. ⌜ Ends (passCall d (now (row .entry)) (now (board .entry))) (now (board .exit)) r ⌝ }
+{
+    let records = row.len();
+    let mut answer = pulses::at_once(board, records, d);
+    if answer == 0 {
+        // copied here, or the compiler would store the row for this call in front of the test
+        let again = row;
+        answer = wellacorn_pass_pulsed(board, again, d);
+    }
+    board::passed(answer)
+}
+
+// The same, by its answer: the row is looked into at the ends of pulses. No entry point of the header: it is exported so that the compiler keeps
+// it apart, and saves no register for it in a call in which no pulse ends.
+#[no_mangle]
+pub extern "C" fn wellacorn_pass_pulsed(board: &mut [[u64; 8]; ROWS], row: &[Pulse], d: u32) -> u8
+    ensures { λ r. ⌜ Ends (passCall d (now (row .entry)) (now (board .entry))) (now (board .exit)) (passedIn r) ⌝ }
 {
     let records = row.len();
     let mut t = pulses::time_of(board, records, d);
@@ -40,7 +56,7 @@ pub extern "C" fn wellacorn_pass(board: &mut [[u64; 8]; ROWS], row: &[Pulse], d:
         let next = lent::pulse_at(row, pulses::next_of(t));
         t = pulses::turn(board, ending, next, t);
     }
-    board::passed(t)
+    pulses::answer_of(t)
 }
 
 // Connection c is opened at a rank.

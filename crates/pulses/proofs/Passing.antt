@@ -8,7 +8,7 @@ use mathlib.Core.Bool.{true, false, true≢false, cond}
 use mathlib.Core.List.{List, [], _∷_}
 use Prim.Native.Nat.{ℕ, zero, suc, _-_, _≤_, _<_, min}
 use native.Mathlib.Omega.{arith}
-use lib.Dec.{ltb}
+use lib.Dec.{eqb, ltb}
 use lib.ListN.{length}
 use lib.Seq.{getD-set-same}
 use borrow.Author.Tests.{leb-true, ltb-true, ltb-false}
@@ -21,7 +21,7 @@ use Rattle.tables.specs.Time.{passed}
 use Rattle.pulses.specs.declared.Pulse.{Pulse}
 use Rattle.pulses.specs.declared.Time.{Time}
 use Rattle.pulses.specs.Pulses.{pulseAt, shortRow, place, runs, standing, lasts, endsWithin, statesOf, beginning, begun, popped, ended, followed, turned, waited, elapsed}
-use Rattle.pulses.specs.Passing.{onward, startOf, turnOf, Goes}
+use Rattle.pulses.specs.Passing.{over, onward, startOf, turnOf, Goes}
 use Rattle.pulses.proofs.Apart.{queue-passed, queue-switched}
 use Rattle.pulses.proofs.Ticks.{left-told, quiet, jump}
 
@@ -80,6 +80,18 @@ module _ {row : List Pulse} {d : ℕ} {b : Board} where
         at-next = λ f. absurd (true≢false (sym f));
       }))
       (λ s. on-from d b z t refl s (rw s at g))
+
+  -- a call in which no pulse ends
+  pub passing-at-once : {z : Board} (r : ℕ) → z ≡ cond (eqb r 1) (waited d b) b
+      → r ≡ cond (shortRow (length row)) 4 (cond (endsWithin d (queueOf b)) 0 1) → eqb r 0 ≡ false → Passing row d b (over r) z
+  unfolding startOf onward
+  passing-at-once r z-is r-is more =
+      passing-start
+      (by-cases (shortRow (length row))
+      (λ s. let four = rw s at r-is in rw s (record { board = rw four at z-is; gives = ap over four }))
+      (λ s. by-cases (endsWithin d (queueOf b))
+      (λ e. absurd (true≢false (rw (rw (s, e) at r-is) at more)))
+      (λ e. let one = rw (s, e) at r-is in rw (s, e) (record { board = rw one at z-is; gives = ap over one }))))
 
   pub passing-done : {z : Board} {t : Time} → Passing row d b t z → t .ends ≡ false
       → (z ≡ cond (shortRow (length row)) b (elapsed row d b)) × (t .answer ≡ cond (shortRow (length row)) 4 1)

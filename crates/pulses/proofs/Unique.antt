@@ -6,10 +6,12 @@ use Rattle.pulses.proofs.block_pulse.Reads as block-pulse
 use Rattle.pulses.proofs.push.Reads as push
 use Rattle.pulses.proofs.newest_of.Reads as newest-of
 use Rattle.pulses.proofs.seat.Reads as seat
+use Rattle.pulses.proofs.at_once.Reads as at-once
 use Rattle.pulses.proofs.time_of.Reads as time-of
 use Rattle.pulses.proofs.going.Reads as going
 use Rattle.pulses.proofs.first_of.Reads as first-of
 use Rattle.pulses.proofs.next_of.Reads as next-of
+use Rattle.pulses.proofs.answer_of.Reads as answer-of
 use Rattle.pulses.proofs.turn.Reads as turn
 
 pub unique-relay-pulse : (κs : _) (a : _) (r r′ : _) (s s′ : _) → relay-pulse.Post κs a r s → relay-pulse.Post κs a r′ s′ → r ≡ r′
@@ -27,6 +29,9 @@ unique-newest-of κs a r r′ s s′ p q = p ∙ sym q
 pub unique-seat : (κs : _) (a : _) (r r′ : _) (s s′ : _) → seat.Post κs a r s → seat.Post κs a r′ s′ → r ≡ r′
 unique-seat κs a r r′ s s′ p q = p ∙ sym q
 
+pub unique-at-once : (κs : _) (a : _) (r r′ : _) (s s′ : _) → at-once.Post κs a r s → at-once.Post κs a r′ s′ → (r ≡ r′) × (now (s .0) ≡ now (s′ .0))
+unique-at-once κs a r r′ s s′ p q = let same = p .1 ∙ sym (q .1) in (same, p .0 ∙ rw same (sym (q .0)))
+
 pub unique-time-of : (κs : _) (a : _) (r r′ : _) (s s′ : _) → time-of.Post κs a r s → time-of.Post κs a r′ s′ → (r ≡ r′) × (now (s .0) ≡ now (s′ .0))
 unique-time-of κs a r r′ s s′ p q = (p .gives ∙ sym (q .gives), p .board ∙ sym (q .board))
 
@@ -38,6 +43,9 @@ unique-first-of κs a r r′ s s′ p q = p ∙ sym q
 
 pub unique-next-of : (κs : _) (a : _) (r r′ : _) (s s′ : _) → next-of.Post κs a r s → next-of.Post κs a r′ s′ → r ≡ r′
 unique-next-of κs a r r′ s s′ p q = p ∙ sym q
+
+pub unique-answer-of : (κs : _) (a : _) (r r′ : _) (s s′ : _) → answer-of.Post κs a r s → answer-of.Post κs a r′ s′ → r ≡ r′
+unique-answer-of κs a r r′ s s′ p q = p ∙ sym q
 
 pub unique-turn : (κs : _) (a : _) (r r′ : _) (s s′ : _) → turn.Post κs a r s → turn.Post κs a r′ s′ → (r ≡ r′) × (now (s .0) ≡ now (s′ .0))
 unique-turn κs a r r′ s s′ p q = (p .gives ∙ sym (q .gives), p .board ∙ sym (q .board))

@@ -6,8 +6,9 @@
 ghost use mathlib.Core.Path.{_≡_};
 ghost use mathlib.Core.Bool.{cond};
 ghost use Prim.Native.Nat.{_+_, _-_, _<_, _^_, min};
-ghost use Rattle.rows.specs.Places.{relayAt, queueOf};
-ghost use Rattle.pulses.specs.Pulses.{pulseOf, relayPulse, shortRow, standing, isFull, place, statesOf, switched, beginning, begun, popped, ended, followed, lasts, endsWithin, waited, joined, accepted, newest, seatOf};
+ghost use lib.Dec.{eqb};
+ghost use Rattle.rows.specs.Places.{relayAt, queueOf, leftSet};
+ghost use Rattle.pulses.specs.Pulses.{pulseOf, relayPulse, shortRow, standing, isFull, runs, place, statesOf, switched, beginning, begun, popped, ended, followed, lasts, endsWithin, waited, joined, accepted, newest, seatOf};
 ghost use Rattle.pulses.specs.Passing.{onward, startOf, turnOf, over, until, Goes};
 use rows::Queue;
 use rows::ROWS;
@@ -246,15 +247,22 @@ fn less(x: u64, d: u32) -> u64
     x - ms
 }
 
+// Of the running pulse of the queue q, d ms have passed.
+fn run_down(board: &mut [[u64; 8]; ROWS], q: Queue, d: u32)
+    ensures { λ u. ⌜ now (board .exit) ≡ cond (runs q) (leftSet (q .left - d) (now (board .entry))) (now (board .entry)) ⌝ }
+{
+    if 0 < q.standing {
+        rows::set_left(board, less(q.left, d));
+    }
+}
+
 // d ms in which no pulse ends.
 fn wait(board: &mut [[u64; 8]; ROWS], d: u32)
     ensures { λ u. ⌜ now (board .exit) ≡ waited d (now (board .entry)) ⌝ }
 {
     let q = rows::queue_of(board);
-    tables::pass(board, d);
-    if 0 < q.standing {
-        rows::set_left(board, less(q.left, d));
-    }
+    tables::pass_pulsed(board, d);
+    run_down(board, q, d);
 }
 
 // Nothing more is to be done in a call of time.
@@ -288,7 +296,24 @@ fn go_on(board: &mut [[u64; 8]; ROWS], d: u32) -> Time
     no_more(1)
 }
 
-// A call of time begins: d ms, with a row of so many records.
+// A call of time in which no pulse ends: all d ms pass at once (1), or none with a row that is too short (4). Where one ends nothing is done (0).
+pub fn at_once(board: &mut [[u64; 8]; ROWS], records: usize, d: u32) -> u8
+    ensures { λ r. ⌜ now (board .exit) ≡ cond (eqb r 1) (waited d (now (board .entry))) (now (board .entry)) ⌝ }
+    ensures { λ r. ⌜ r ≡ cond (shortRow records) 4 (cond (endsWithin d (queueOf (now (board .entry)))) 0 1) ⌝ }
+{
+    if records < 31 {
+        return 4;
+    }
+    let q = rows::queue_of(board);
+    if ends_within(q, d) {
+        return 0;
+    }
+    tables::pass(board, d);
+    run_down(board, q, d);
+    1
+}
+
+// A call of time begins, whether a pulse ends in it or not: d ms, with a row of so many records.
 pub fn time_of(board: &mut [[u64; 8]; ROWS], records: usize, d: u32) -> Time
     ensures { λ r. ⌜ Goes (startOf records d (now (board .entry))) (now (board .exit)) r ⌝ }
 {
@@ -318,6 +343,13 @@ pub fn next_of(t: Time) -> usize
     t.next
 }
 
+// The call's answer.
+pub fn answer_of(t: Time) -> u8
+    ensures { λ r. ⌜ r ≡ t .answer ⌝ }
+{
+    t.answer
+}
+
 // The smaller of two numbers of ms.
 fn least(x: u64, y: u32) -> u32
     ensures { λ r. ⌜ r ≡ min x y ⌝ }
@@ -333,7 +365,7 @@ pub fn turn(board: &mut [[u64; 8]; ROWS], ending: Pulse, next: Pulse, t: Time) -
     ensures { λ r. ⌜ Goes (turnOf ending next t (now (board .entry))) (now (board .exit)) r ⌝ }
 {
     let ms = least(last(rows::queue_of(board)), t.rest);
-    tables::pass(board, ms);
+    tables::pass_pulsed(board, ms);
     end(board, ending);
     follow(board, next);
     go_on(board, t.rest - ms)

@@ -2,6 +2,7 @@
 use mathlib.Core.Path.{_≡_, sym, _∙_}
 use denote.Ref.{now}
 use Rattle.tables.proofs.pass.Reads as pass
+use Rattle.tables.proofs.pass_pulsed.Reads as pass-pulsed
 use Rattle.tables.proofs.alarm_state.Reads as alarm-state
 use Rattle.tables.proofs.count_alarm.Reads as count-alarm
 use Rattle.tables.proofs.usage_alarm.Reads as usage-alarm
@@ -10,6 +11,9 @@ use Rattle.tables.proofs.id_of.Reads as id-of
 
 pub unique-tables-pass : (κs : _) (a : _) (r r′ : _) (s s′ : _) → pass.Post κs a r s → pass.Post κs a r′ s′ → now (s .0) ≡ now (s′ .0)
 unique-tables-pass κs a r r′ s s′ p q = p ∙ sym q
+
+pub unique-tables-pass-pulsed : (κs : _) (a : _) (r r′ : _) (s s′ : _) → pass-pulsed.Post κs a r s → pass-pulsed.Post κs a r′ s′ → now (s .0) ≡ now (s′ .0)
+unique-tables-pass-pulsed κs a r r′ s s′ p q = p ∙ sym q
 
 pub unique-tables-alarm-state : (κs : _) (a : _) (r r′ : _) (s s′ : _) → alarm-state.Post κs a r s → alarm-state.Post κs a r′ s′ → r ≡ r′
 unique-tables-alarm-state κs a r r′ s s′ p q = p ∙ sym q

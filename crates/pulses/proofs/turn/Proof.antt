@@ -24,4 +24,4 @@ turn-spec =
     let p = e .before .before in
     let l = p .before .before in
     let m = l .least .ensures ∙ rw (l .before .last .ensures, l .before .before .queue-of .ensures) in
-    rw (f .follow .ensures, e .end .ensures, p .pass .ensures, m) at (c .go-on .ensures)))
+    rw (f .follow .ensures, e .end .ensures, p .pass-pulsed .ensures, m) at (c .go-on .ensures)))

@@ -1,6 +1,5 @@
--- `pulses::wait`: a pulse runs, or none. Assumes nothing.
+-- `pulses::wait`: time passes, and the running pulse runs down. Assumes nothing.
 use mathlib.Core.Path.{_∙_}
-use borrow.Author.Tests.{lt-ltb, le-ltb}
 use Rattle.pulses.specs.Pulses.{waited}
 use borrow.Author.Needs.{needs}
 use Rattle.pulses.proofs.wait.Statement.{statement}
@@ -14,9 +13,4 @@ wait-spec =
     (λ c κs. search needs)
     (λ c κs. search needs)
     (λ c κs. search needs)
-    (λ c κs. search needs)
-    (λ c. let t = c .before .before .before in
-    let p = t .before .before in
-    let q = p .before .before .queue-of .ensures in
-    rw (← q, lt-ltb _ _ (t .if1 .taken)) (c .set-left .ensures ∙ rw (c .before .less .ensures, p .pass .ensures)))
-    (λ c. let p = c .before .before in rw (← p .before .before .queue-of .ensures, le-ltb _ _ (c .if1 .left)) (p .pass .ensures)))
+    (λ c. let p = c .before .before in c .run-down .ensures ∙ rw (p .before .before .queue-of .ensures, p .pass-pulsed .ensures)))
