@@ -40,7 +40,8 @@ numbersWith call calls = numbers (trace served (boxWith call) (atPowerUp setting
 -- a version that meets the demand on a run has the box's numbers there
 same-numbers : (call : Held → Call served → Held × Answer served) (calls : List (Call served))
     → Demand3 served (boxWith call) (atPowerUp settings halves rooms noPulses) calls → numbersWith call calls ≡ boxNumbers calls
-same-numbers call calls D = ap numbers (box-determined settings halves rooms noPulses refl refl (boxWith call) (atPowerUp settings halves rooms noPulses) calls refl D .0)
+same-numbers call calls D =
+    ap numbers (box-determined settings halves rooms noPulses refl refl (boxWith call) (atPowerUp settings halves rooms noPulses) calls refl D .0)
 
 box-crossing : boxNumbers crossing ≡ 1 ∷ 1 ∷ 0 ∷ 2 ∷ []
 unfolding put stepOf firstOf afterOf roomOf runOf lineAt putLine onRows openedLine connected servedMessage poweredUp halfAt putHalf connectCall bytesCall halvesAfter roomsAfter rowAfter queueOf

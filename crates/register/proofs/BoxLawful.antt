@@ -69,11 +69,13 @@ refuses : (x : Held) (c room : ℕ) (p : List ℕ) (a : Reply) → refusalOf (ta
 unfolding bytesCall halvesAfter roomsAfter
 refuses x c room p a e = go (isOpen c (x .board)) (tooShort room || shortRow (length (x .row))) refl refl
   where
-    kept : (r : Reply) → r ≡ a → _≡_ {A = Held × Answer served} (held (x .board) (x .halves) (x .rooms) (rowAfter (x .board) (x .board) (x .row)), answer served 0 (refused r))
+    kept : (r : Reply) → r ≡ a → _≡_ {A = Held × Answer served}
+        (held (x .board) (x .halves) (x .rooms) (rowAfter (x .board) (x .board) (x .row)), answer served 0 (refused r))
         (x, answer served 0 (refused a))
     kept r g = rw (row-same (x .board) (x .row), g)
 
-    go : (o t : Bool) → isOpen c (x .board) ≡ o → tooShort room || shortRow (length (x .row)) ≡ t → boxCall x (bytes c room p) ≡ (x, answer served 0 (refused a))
+    go : (o t : Bool) → isOpen c (x .board) ≡ o → tooShort room || shortRow (length (x .row)) ≡ t
+        → boxCall x (bytes c room p) ≡ (x, answer served 0 (refused a))
     go true true u v = let f : some (refusing 4) ≡ some a = rw (u, v) at e in let g : refusing 4 ≡ a = cc in rw (u, v) (kept (refusing 4) g)
     go true false u v = let f : none ≡ some a = rw (u, v) at e in let z : _≡_ {A = ℕ} 0 1 = cc in absurd (omega arith)
     go false t u v = let f : some (refusing 3) ≡ some a = rw u at e in let g : refusing 3 ≡ a = cc in rw u (kept (refusing 3) g)
@@ -137,8 +139,10 @@ keeps-event x (close d) c u w = by-cases (eqb c d) same (λ n. (dropped-apart d 
 keeps-event x (collect d room) c u w = (refl, refl)
 
 keeps : (x : Held) (k : Call served) (c : ℕ) → feedsTo served c k ≡ false → openAt x c ≡ true → openAt (after x k) c ≡ true → Keeps x k c
-keeps x (bytes d room p) c n u w =
-    (bytes-half-apart d room (length (x .row)) p (x .board) (x .halves) (x .rooms) c n, bytes-room-apart d room (length (x .row)) p (x .board) (x .halves) (x .rooms) c n)
+keeps x (bytes d room p) c n u w = (
+  bytes-half-apart d room (length (x .row)) p (x .board) (x .halves) (x .rooms) c n,
+  bytes-room-apart d room (length (x .row)) p (x .board) (x .halves) (x .rooms) c n,
+)
 keeps x (other e) c n u w = keeps-event x e c u w
 
 -- one that is opened begins anew; nothing but an opening opens one

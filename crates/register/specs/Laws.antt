@@ -26,7 +26,8 @@ pub record ButClock (before after : Board) : Type 0 where
   pub rows : (n : ℕ) → eqb n clockRow ≡ false → rowAt n after ≡ rowAt n before
   pub words : (j : ℕ) → eqb j 0 ≡ false → word j (rowAt clockRow after) ≡ word j (rowAt clockRow before)
 
--- 01, Answer numbers, under the table, and 02, M-100, 7: numbers 3 to 14 write no reply, and every word of the board is as it was; so every byte of a reply buffer stays
+-- 01, Answer numbers, under the table, and 02, M-100, 7: numbers 3 to 14 write no reply, and every word of the board is as it was; so every
+-- byte of a reply buffer stays
 pub record Untouched (before : Board) (e : Effect) : Type 0 where
   pub board : e .did .board ≡ before
   pub silent : e .did .reply ≡ []

@@ -20,9 +20,11 @@ push-spec =
     (λ c. let t = c .before .before in
     let p = t .before .before in
     let l = p .before .before .before in
-    rw (← l .before .before .queue-of .ensures, lt-leb _ _ (l .if1 .left), le-ltb 0 (l .before .before .queue-of .result .standing) (omega (arith, t .if2 .taken)))
+    let q = l .before .before .queue-of in
+    rw (← q .ensures, lt-leb _ _ (l .if1 .left), le-ltb 0 (q .result .standing) (omega (arith, t .if2 .taken)))
     (c .begin .ensures ∙ rw (p .put-queue .ensures, p .before .join .ensures), refl))
     (λ c. let p = c .before .before in
     let l = p .before .before .before in
-    rw (← l .before .before .queue-of .ensures, lt-leb _ _ (l .if1 .left), lt-ltb 0 (l .before .before .queue-of .result .standing) (omega (arith, c .if2 .left)))
+    let q = l .before .before .queue-of in
+    rw (← q .ensures, lt-leb _ _ (l .if1 .left), lt-ltb 0 (q .result .standing) (omega (arith, c .if2 .left)))
     (p .put-queue .ensures ∙ rw (p .before .join .ensures), refl)))
