@@ -1,4 +1,4 @@
--- An input or relay that is stored at power-up, as its row. Assumes nothing.
+-- An input or relay that is stored at power-up, as its row.
 use mathlib.Core.Path.{_≡_, _∙_}
 use Prim.Native.Nat.{ℕ, _+_, _<_}
 use lib.ListN.{set}

@@ -1,4 +1,4 @@
--- Two answers to one call that its contract allows are the same, and so are the board, the reply buffer and the half-read messages after it. Assumes nothing.
+-- Two answers to one call that its contract allows are the same, and so are the board, the reply buffer and the half-read messages after it.
 use mathlib.Core.Path.{_≡_, sym, ap, _∙_}
 use mathlib.Core.List.{List}
 use Prim.Native.Nat.{ℕ}

@@ -1,4 +1,4 @@
--- A call of time is over: what the loop of its turns has come to is what the call says. Assumes nothing.
+-- A call of time is over: what the loop of its turns has come to is what the call says.
 use mathlib.Core.Path.{_≡_, refl}
 use mathlib.Core.Bool.{false}
 use mathlib.Core.List.{List}

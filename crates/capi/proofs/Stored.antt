@@ -1,5 +1,4 @@
 -- The row after a call of bytes: what `board::bytes` says of the place and the pulse, and `lent::put_pulse` of the row, together.
--- Assumes nothing.
 use mathlib.Core.Path.{_≡_, ap, _∙_}
 use mathlib.Core.List.{List}
 use Prim.Native.Nat.{ℕ}

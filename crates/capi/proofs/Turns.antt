@@ -1,4 +1,4 @@
--- A call of time: what the calls in a turn of its loop say, together, and those in front of it. Assumes nothing.
+-- A call of time: what the calls in a turn of its loop say, together, and those in front of it.
 use mathlib.Core.Path.{_≡_, ap, sym, subst, _∙_}
 use mathlib.Core.Bool.{Bool, true, false, not, cond}
 use mathlib.Core.List.{List}

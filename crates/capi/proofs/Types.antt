@@ -1,4 +1,4 @@
--- The types of what is lent to this crate's functions, as their walks name them. Assumes nothing.
+-- The types of what is lent to this crate's functions, as their walks name them.
 use Prim.Native.Nat.{ℕ}
 use package.mir.Syntax.{Ty, Lifetime, mut, w64, tyInt, tyArray, tyRef}
 use denote.RattleType.{RattleType}

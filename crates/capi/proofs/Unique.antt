@@ -1,4 +1,4 @@
--- For one input, two answers that a contract allows are equal, and so is what is left of what was lent. Assumes nothing.
+-- For one input, two answers that a contract allows are equal, and so is what is left of what was lent.
 use mathlib.Core.Path.{_≡_, ap, sym, _∙_}
 use mathlib.Core.List.{List}
 use Prim.Native.Nat.{ℕ}

@@ -8,7 +8,6 @@
 --     shut-out-nodding        serves only the first message and then nods
 --     meets-opened            the box itself meets it from where these are tried, so that nothing is shut out for want of a machine
 --     shut-out-inventing      invents a number, a length, bytes taken or a count: in anything it shows it differs from the box
--- Assumes nothing.
 use mathlib.Core.Path.{_≡_, refl, sym, ap, _∙_}
 use mathlib.Core.List.{List, [], _∷_}
 use mathlib.Core.Option.{none}

@@ -2,7 +2,6 @@
 --     shut-out-shared     one half-read store for two connections
 --     shut-out-muted      the sender's answer dropped
 --     shut-out-keeping    an old half-read message kept at a closing and the next opening
--- Assumes nothing.
 use mathlib.Core.Path.{_≡_, refl, sym, ap, _∙_}
 use mathlib.Core.List.{List, [], _∷_}
 use Prim.Native.Nat.{ℕ}

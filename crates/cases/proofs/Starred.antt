@@ -1,4 +1,4 @@
--- The starred cases of 01 hold, all of them: its parts are computed, and `starred` is the whole table. Assumes nothing.
+-- The starred cases of 01 hold, all of them: its parts are computed, and `starred` is the whole table.
 use mathlib.Core.Path.{_≡_, refl, ap}
 use mathlib.Core.List.{List, [], _∷_, _++_, map}
 use Prim.Native.Nat.{ℕ}

@@ -1,4 +1,4 @@
--- The four empty versions that 01 has tried, as properties of any machine that answers the box's calls. Assumes nothing.
+-- The four empty versions that 01 has tried, as properties of any machine that answers the box's calls.
 use mathlib.Core.Path.{_≡_}
 use mathlib.Core.List.{List, []}
 use Prim.Native.Nat.{ℕ, _≤_}

@@ -1,4 +1,4 @@
--- Three versions of the box that lose something, as machines over the same calls. Assumes nothing.
+-- Three versions of the box that lose something, as machines over the same calls.
 use mathlib.Core.List.{List, [], _∷_, map}
 use Prim.Native.Nat.{ℕ}
 use Rattle.board.specs.Halves.{halfAt, putHalf}

@@ -1,5 +1,4 @@
 -- The starred cases of document 01, "Both sides of each edge", as one table: what the box does, through its calls, and what 01 owes.
--- Assumes nothing.
 use mathlib.Core.Bool.{false, cond}
 use mathlib.Core.List.{List, [], _∷_, _++_}
 use Prim.Native.Nat.{ℕ, _+_, _*_}

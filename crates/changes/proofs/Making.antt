@@ -1,4 +1,4 @@
--- What a change makes: nothing, or a relay of a block. Assumes nothing.
+-- What a change makes: nothing, or a relay of a block.
 use mathlib.Core.Path.{_≡_, refl, sym, ap, _∙_}
 use mathlib.Core.Bool.{Bool, true, false, cond}
 use mathlib.Core.List.{List, []}

@@ -1,6 +1,5 @@
 -- What a reader may say aloud of the changes.
 --     same-level      telling an input the level that it has changes nothing, whatever words stand in the board
--- Assumes nothing.
 use mathlib.Core.Path.{_≡_, refl}
 use mathlib.Core.Bool.{Bool, true, false, Bool·beq}
 use Prim.Native.Nat.{ℕ, _≤_}

@@ -1,5 +1,4 @@
 -- What a change of one input or relay answers. Document 01, "Answer numbers" and "Events besides bytes".
--- Assumes nothing.
 use mathlib.Core.Path.{_≡_}
 use mathlib.Core.Bool.{Bool, Bool·beq, false, cond, not}
 use Prim.Native.Nat.{ℕ}

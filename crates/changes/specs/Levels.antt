@@ -1,4 +1,4 @@
--- The level of an input. Document 01, "Events besides bytes". Assumes nothing.
+-- The level of an input. Document 01, "Events besides bytes".
 use mathlib.Core.Bool.{Bool, Bool·beq, false, cond, not, _&&_}
 use Prim.Native.Nat.{ℕ, _+_, min}
 use lib.Dec.{eqb, ltb}

@@ -1,4 +1,4 @@
--- A line is fed: the piece that was parsed, and what the call of the box then says of the line. Assumes nothing.
+-- A line is fed: the piece that was parsed, and what the call of the box then says of the line.
 use mathlib.Core.Path.{_≡_, refl, sym, ap, _∙_}
 use mathlib.Core.List.{List}
 use mathlib.Core.Option.{some}

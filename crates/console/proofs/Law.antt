@@ -2,7 +2,6 @@
 --     lines-kept          byte by byte, the lines of the input, each cut to its first 2,059 characters, are fed
 --     cut-same            a line cut so does what the whole line does
 --     prints-every-line   both, for any pieces
--- Assumes nothing.
 use mathlib.Core.Path.{_≡_, refl, sym, ap, _∙_}
 use mathlib.Core.Bool.{false}
 use mathlib.Core.List.{List, [], _∷_, _++_, map, append-nil, append-assoc}

@@ -1,4 +1,4 @@
--- How a line's digits are read: one turn of each loop, and its end. Assumes nothing.
+-- How a line's digits are read: one turn of each loop, and its end.
 use mathlib.Core.Path.{_≡_, refl, sym, ap, _∙_}
 use mathlib.Core.Bool.{Bool, true, false, _&&_, false≢true}
 use mathlib.Core.List.{List, [], _∷_}

@@ -1,4 +1,4 @@
--- The relays gathered into a byte, from the last to the first. Assumes nothing.
+-- The relays gathered into a byte, from the last to the first.
 use mathlib.Core.Path.{_≡_, refl, sym, _∙_}
 use mathlib.Core.Bool.{Bool, true, false, cond}
 use mathlib.Core.List.{_∷_}

@@ -1,4 +1,4 @@
--- Connection 0 opens at power-up. Assumes nothing.
+-- Connection 0 opens at power-up.
 use mathlib.Core.Path.{_≡_, refl}
 use lib.ListN.{replicate}
 use Rattle.rows.specs.Places.{lineAt, onRows}

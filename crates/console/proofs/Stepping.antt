@@ -1,4 +1,4 @@
--- A byte of the input: what ends a line, what is kept, and the loop over the bytes of a read. Assumes nothing.
+-- A byte of the input: what ends a line, what is kept, and the loop over the bytes of a read.
 use mathlib.Core.Path.{_≡_, refl, sym, ap, _∙_}
 use mathlib.Core.Bool.{false, cond}
 use mathlib.Core.List.{List, [], _∷_, _++_, append-nil, append-assoc}

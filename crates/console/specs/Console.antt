@@ -1,6 +1,5 @@
 -- The console byte by byte: what the code holds between reads, and what a byte of the input does to it and prints.
 -- That this prints what Lines says of the whole input, however the reads cut it, is the law `prints-every-line` in proofs/Law.
--- Assumes nothing.
 use mathlib.Core.Bool.{cond}
 use mathlib.Core.List.{List, [], _∷_, _++_}
 use Prim.Native.Nat.{ℕ, _+_}

@@ -1,5 +1,4 @@
 -- Hexadecimal lines and the four digits of an answer. Document 01, "A console program reads standard input".
--- Assumes nothing.
 use mathlib.Core.Bool.{Bool, true, cond, _&&_, _||_}
 use mathlib.Core.List.{List, [], _∷_}
 use mathlib.Core.Option.{Option, none, some}

@@ -1,5 +1,4 @@
 -- The lines of the input, and what each of them does. Document 01, "A console program reads standard input".
--- Assumes nothing.
 use mathlib.Core.Bool.{cond}
 use mathlib.Core.List.{List, [], _∷_, _++_}
 use mathlib.Core.Option.{Option, none, some}

@@ -1,4 +1,4 @@
--- What the private functions of a turn promise, in terms of Reading: it decides nothing. Assumes nothing.
+-- What the private functions of a turn promise, in terms of Reading: it decides nothing.
 use mathlib.Core.Path.{_≡_}
 use mathlib.Core.List.{List}
 use Prim.Native.Nat.{ℕ, _≤_, _<_}

@@ -1,4 +1,4 @@
--- Past a row's end: no pulse stands there, and nothing is stored there. Assumes nothing.
+-- Past a row's end: no pulse stands there, and nothing is stored there.
 use mathlib.Core.Path.{_≡_, refl}
 use mathlib.Core.List.{List, [], _∷_}
 use Prim.Native.Nat.{ℕ, zero, suc, _≤_}

@@ -1,4 +1,4 @@
--- For one input, two answers that a contract allows are equal, and so are the rows after them. Assumes nothing.
+-- For one input, two answers that a contract allows are equal, and so are the rows after them.
 use mathlib.Core.Path.{_≡_, sym, _∙_}
 use mathlib.Core.List.{List}
 use Prim.Native.Nat.{ℕ}

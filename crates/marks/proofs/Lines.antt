@@ -1,4 +1,4 @@
--- A connection that is marked, as its row. Assumes nothing.
+-- A connection that is marked, as its row.
 use mathlib.Core.Path.{_≡_, refl, sym, _∙_}
 use mathlib.Core.Bool.{Bool, true, false, cond}
 use mathlib.Core.List.{[]}

@@ -1,5 +1,4 @@
 -- The due marks of the connections. Document 01, "Events besides bytes".
--- Assumes nothing.
 use mathlib.Core.Bool.{Bool, true, cond, _&&_}
 use mathlib.Core.List.{List}
 use Prim.Native.Nat.{ℕ}

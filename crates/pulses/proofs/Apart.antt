@@ -1,7 +1,6 @@
 -- What stands beside the queue's row and does not touch it: passing time, and a switch of relays.
 --     queue-passed, queue-switched   the queue's row stays
 --     left-passed                    and the ms left may be set before or after
--- Assumes nothing.
 use mathlib.Core.Path.{_≡_, refl, ap, _∙_}
 use mathlib.Core.Bool.{Bool, true, false}
 use mathlib.Core.List.{List, []}

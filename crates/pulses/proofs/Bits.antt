@@ -3,7 +3,6 @@
 --     states-small   the states of n relays have n bits
 --     bit-added      a weight added above a bit leaves it;   bit-top   and is the next bit of what is smaller
 --     states-bit     each bit is its relay's state
--- Assumes nothing.
 use mathlib.Core.Path.{_≡_, refl, ap, _∙_}
 use mathlib.Core.Bool.{Bool, true, false, cond}
 use Prim.Native.Nat.{ℕ, zero, suc, _+_, _-_, _*_, _/_, _%_, _^_, _<_, _≤_, zero-le}

@@ -1,5 +1,5 @@
 -- What passing time, a change of relays, the marks and a store to the queue's row all keep, pulses keep: a request, and time with its ends and
--- beginnings. Assumes nothing.
+-- beginnings.
 use mathlib.Core.Bool.{Bool}
 use mathlib.Core.List.{List}
 use Prim.Native.Nat.{ℕ, zero, suc}

@@ -2,7 +2,6 @@
 --     Passing         its invariant: what the ms that are left lead to is what all ms do
 --     passing-start, passing-turn, passing-done
 --     has-row, told-again, queue-ended, one-gone, stays-waited   what is there of a queue, and what an end and a wait leave of it
--- Assumes nothing.
 use mathlib.Core.Path.{_≡_, refl, sym, ap, _∙_}
 use mathlib.Core.Bool.{true, false, true≢false, cond}
 use mathlib.Core.List.{List, [], _∷_}

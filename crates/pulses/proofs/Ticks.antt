@@ -2,7 +2,6 @@
 --     tick-waited   one ms behind n in which none ended
 --     quiet         where no pulse ends within d ms, d times 1 ms only waits
 --     jump          where one does, the ms up to its end are one turn
--- Assumes nothing.
 use mathlib.Core.Path.{_≡_, refl, sym, ap, _∙_}
 use mathlib.Core.Bool.{true, false, true≢false, cond}
 use mathlib.Core.List.{List, [], _∷_}

@@ -1,4 +1,4 @@
--- A call of time, from end to end of the pulses: how far it has come. Document 02, M-100. Assumes nothing.
+-- A call of time, from end to end of the pulses: how far it has come. Document 02, M-100.
 use mathlib.Core.Path.{_≡_}
 use mathlib.Core.Bool.{true, false, cond}
 use Prim.Native.Nat.{ℕ, _-_, min}

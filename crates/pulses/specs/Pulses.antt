@@ -1,5 +1,4 @@
 -- Pulsed relays: the queue, a pulse's beginning and end, a request, and one ms. Document 02, M-100.
--- Assumes nothing.
 use mathlib.Core.Bool.{Bool, cond, _&&_}
 use mathlib.Core.List.{List}
 use Prim.Native.Nat.{ℕ, zero, suc, _+_, _-_, _%_, _^_, min, max}

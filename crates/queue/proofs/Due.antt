@@ -3,7 +3,6 @@
 --     own-change             02, M-100, 3: so behind an end that changed a state, also where the next beginning changes it back
 --     next-change            02, M-100, 3: and behind a beginning that did, also where the end before it changed nothing
 --     no-change              02, M-100, 3: where no state changes, the connections are as they were
--- Assumes nothing.
 use mathlib.Core.Path.{_≡_, refl, sym, ap, _∙_}
 use mathlib.Core.Bool.{Bool, true, false, true≢false, cond, _&&_, _||_}
 use mathlib.Core.List.{List, []}

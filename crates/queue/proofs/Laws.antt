@@ -16,7 +16,6 @@
 --     short-row         02, M-100, 5: with a row under 31, a call of time answers 4 and does nothing
 --     requests-fit      02, M-100, 1: what actions 6 and 7 ask for fits the fields of a record
 --     action-6          02, M-100, 1: a pulse of relay k has the bit of this relay, and no other, in mask and states
--- Assumes nothing.
 use mathlib.Core.Path.{_≡_, refl, sym, ap, _∙_}
 use mathlib.Core.Bool.{true, false}
 use mathlib.Core.List.{List}

@@ -5,7 +5,6 @@
 --     input-entry, relay-entry         an entry that is written
 --     mark-beside, connection-beside   marks; an opening, a closing and whatever else is done to a connection
 --     beside-then                      one of these behind another
--- Assumes nothing.
 use mathlib.Core.Path.{_≡_, refl, sym, ap, _∙_}
 use mathlib.Core.Bool.{Bool, true, false}
 use mathlib.Core.List.{List, []}

@@ -3,7 +3,6 @@
 --     returns     02, M-100, 3: at an end each masked relay returns to the state that it had before the beginning, whatever it has now
 --     unmasked    02, M-100, 3: the row of a relay that is not masked keeps every word, at a beginning and at an end
 --     elsewhere   02, M-100, 3: and so do the rows of the inputs;   clock-kept   and the clock's
--- Assumes nothing.
 use mathlib.Core.Path.{_≡_, refl, ap, _∙_}
 use mathlib.Core.Bool.{Bool, true, false}
 use mathlib.Core.List.{List, [], _∷_}

@@ -5,7 +5,6 @@
 --     view-pushed      02, M-100, 5 and 7: a request, likewise
 --     seat-stores      02, M-100, 5: the row after a request is that with its record at the place that `pulses::seat` gives
 --     waiting-length   02, M-100, 2: the list is as long as pulses stand
--- Assumes nothing.
 use mathlib.Core.Path.{_≡_, refl, sym, ap, _∙_}
 use mathlib.Core.Bool.{true, false}
 use mathlib.Core.List.{List, [], _∷_, _++_}

@@ -4,7 +4,6 @@
 --                        left it its place, its ms and what it remembers: Meanwhile has what does
 --     request-beside     02, M-100, 2: and a request is among that
 --     lasts-its-time     02, M-100, 1 and 4: a pulse of d ms closes its relay for d ms of usage, and no longer
--- Assumes nothing.
 use mathlib.Core.Path.{_≡_, refl, sym, ap, _∙_}
 use mathlib.Core.Bool.{true, false, cond}
 use mathlib.Core.List.{List, []}

@@ -1,5 +1,4 @@
 -- The queue as 02 speaks of it, a list from which the first is taken; the ring of the crate pulses stands for it. Document 02, M-100.
--- Assumes nothing.
 use mathlib.Core.Bool.{Bool, cond}
 use mathlib.Core.List.{List, [], _∷_, _++_}
 use Prim.Native.Nat.{ℕ, zero, suc, _-_, _<_, _^_}

@@ -1,4 +1,4 @@
--- What is done while a pulse runs. Document 02, M-100. Assumes nothing.
+-- What is done while a pulse runs. Document 02, M-100.
 use mathlib.Core.Path.{_≡_}
 use mathlib.Core.Bool.{true}
 use mathlib.Core.List.{List}

@@ -1,4 +1,4 @@
--- The box's calls, each by itself: what a piece comes to, and what openings and closings do to each connection. Assumes nothing.
+-- The box's calls, each by itself: what a piece comes to, and what openings and closings do to each connection.
 use mathlib.Core.Path.{_≡_, refl, sym, _∙_}
 use mathlib.Core.Bool.{Bool, true, false, true≢false, cond, _||_}
 use mathlib.Core.List.{List, [], _∷_}

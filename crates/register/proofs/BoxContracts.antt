@@ -4,7 +4,6 @@
 --     contract-bytes                                        a piece's answer, and all that is lent to it after the call, are the box's step
 -- Those of time and of bytes lend the row of pulses: their proofs are walks, which give a contract no name, so it is written out.
 -- A reply has at most 3,437 bytes (`answered-reply`, `monitor-reply`), so that the host reads it whole out of its buffer.
--- Assumes nothing.
 use mathlib.Core.Path.{_≡_, refl, ap}
 use mathlib.Core.Bool.{Bool, true, false, cond}
 use mathlib.Core.List.{List, [], _∷_}

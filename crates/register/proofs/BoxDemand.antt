@@ -6,7 +6,6 @@
 --     box-cut-anywhere   two ways of cutting the same bytes come to the same tables and replies
 --     box-determined     every machine that meets demand 3 answers as the box does
 --     box-untaken        what is not taken of a piece has no part in its answer
--- Assumes nothing.
 use mathlib.Core.Path.{_≡_, refl, sym, ap, _∙_}
 use mathlib.Core.Bool.{Bool, true, false, true≢false, cond}
 use mathlib.Core.List.{List, [], map}

@@ -1,4 +1,4 @@
--- The box is a lawful machine: it feeds the framing, serves what ended, and keeps its connections apart. Assumes nothing.
+-- The box is a lawful machine: it feeds the framing, serves what ended, and keeps its connections apart.
 use mathlib.Core.Path.{_≡_, refl, sym, ap, _∙_}
 use mathlib.Core.Bool.{Bool, true, false, true≢false, _||_}
 use mathlib.Core.List.{List}

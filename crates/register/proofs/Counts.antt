@@ -1,6 +1,5 @@
 -- The counts stay within 01's range, whatever events happen and whatever messages come: what the width of their word does not say.
 --     counts-at-power-up, counts-after-event, counts-after-message
--- Assumes nothing.
 use mathlib.Core.Path.{_≡_, refl, sym, subst}
 use mathlib.Core.Bool.{Bool, true, false, cond, not, _&&_}
 use mathlib.Core.List.{List, [], _∷_}

@@ -5,7 +5,6 @@
 --     refused-piece        a piece that is refused before any byte, with 3 or 4, changes nothing at all
 --     time-adds            d ms in one call are d calls of 1 ms
 --     others-kept          a call on one connection leaves the other connections' halves, rooms and lines, due marks aside
--- Assumes nothing.
 use mathlib.Core.Path.{_≡_, refl, sym, ap, _∙_}
 use mathlib.Core.Bool.{Bool, true, false, true≢false, cond}
 use mathlib.Core.List.{List, [], _∷_}

@@ -1,7 +1,6 @@
 -- What changes of inputs, relays and the clock leave, for every relation of boards that a store before the connections' rows keeps.
 --     Leaves    such a relation
 --     on-input, on-relay, level-stays, written-stays, passed-stays, block-stays, clock-stays
--- Assumes nothing.
 use mathlib.Core.Path.{refl}
 use mathlib.Core.List.{List}
 use Prim.Native.Nat.{ℕ, zero, suc, _+_, _-_, _≤_, _<_}

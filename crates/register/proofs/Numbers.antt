@@ -1,5 +1,4 @@
 -- What a message's answer number says: 1 where it is served; else nothing changed, nothing is sent, and the number is none of 0, 3 and 4.
--- Assumes nothing.
 use mathlib.Core.Path.{_≡_, refl}
 use mathlib.Core.Logic.{⊎-elim}
 use mathlib.Core.Bool.{Bool, true, false, cond}

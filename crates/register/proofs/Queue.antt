@@ -2,7 +2,6 @@
 --     queue-message    a message leaves every word of the queue's row, or asks for a pulse that is accepted
 --     queue-event      an event but passing time leaves every word of it
 --     running-kept     so the running pulse keeps its place, its ms left and the states that were remembered, whatever message comes
--- Assumes nothing.
 use mathlib.Core.Path.{_≡_, refl, ap, _∙_}
 use mathlib.Core.Bool.{Bool, true, false}
 use mathlib.Core.List.{List, []}

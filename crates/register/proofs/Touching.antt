@@ -1,7 +1,6 @@
 -- What events and messages leave of the connections, openings and closings aside.
 --     Unmarked    each connection is as it was, its mark aside: level-event, pass-event
 --     Touches     each is as open as it was, and each but the sender's as it was, its mark aside: collect-touches, message-touches
--- Assumes nothing.
 use mathlib.Core.Path.{_≡_, refl, ap, _∙_}
 use mathlib.Core.Bool.{Bool, true, false, cond}
 use mathlib.Core.List.{List, [], _∷_}

@@ -1,4 +1,4 @@
--- For one input, two answers that a contract of the crate board allows are equal, and so is what is left of what was lent. Assumes nothing.
+-- For one input, two answers that a contract of the crate board allows are equal, and so is what is left of what was lent.
 use mathlib.Core.Path.{_≡_, sym, _∙_}
 use denote.Ref.{now}
 use Rattle.board.proofs.Same.{ends, answers, halved}

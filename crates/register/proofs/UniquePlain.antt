@@ -1,5 +1,4 @@
 -- For one input, two answers that a contract of the crates plain and serving allows are equal, and so is what is left of what was lent.
--- Assumes nothing.
 use mathlib.Core.Path.{_≡_, sym, _∙_}
 use mathlib.Core.List.{List}
 use Prim.Native.Nat.{ℕ}

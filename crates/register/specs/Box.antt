@@ -1,5 +1,4 @@
 -- The box as demand 3 sees it: its plain machine, and its calls. Each call is made of the definitions that the entry point's contract cites.
--- Assumes nothing.
 use mathlib.Core.Bool.{Bool, cond, _||_}
 use mathlib.Core.List.{List, []}
 use mathlib.Core.Option.{Option, none, some}

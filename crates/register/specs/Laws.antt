@@ -1,4 +1,4 @@
--- What the named laws of demand 2 say. Assumes nothing.
+-- What the named laws of demand 2 say.
 use mathlib.Core.Path.{_≡_}
 use mathlib.Core.Bool.{Bool, false}
 use mathlib.Core.List.{List, []}

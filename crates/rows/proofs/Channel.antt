@@ -1,4 +1,4 @@
--- What a test of a channel tells. Assumes nothing.
+-- What a test of a channel tells.
 use mathlib.Core.Path.{_≡_, refl, sym, _∙_}
 use mathlib.Core.Bool.{Bool, true, false, true≢false, _&&_}
 use Prim.Native.Nat.{ℕ, _+_, _≤_, _<_}

@@ -3,7 +3,6 @@
 --     row-waits   the row whose turn it is has not been changed yet
 --     beyond      a row behind them stays
 --     rows-flow   time that passes for each of these rows flows
--- Assumes nothing.
 use mathlib.Core.Path.{_≡_, refl, sym, ap, _∙_}
 use mathlib.Core.List.{List, [], _∷_}
 use Prim.Native.Nat.{ℕ, zero, suc, _+_, _≤_, _<_, zero-le}

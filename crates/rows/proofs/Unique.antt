@@ -1,4 +1,4 @@
--- For one input, two answers that a contract allows are equal, and so are the boards after them. Assumes nothing.
+-- For one input, two answers that a contract allows are equal, and so are the boards after them.
 use mathlib.Core.Path.{_≡_, sym, _∙_}
 use denote.Ref.{now}
 use Rattle.rows.proofs.input_in.Reads as input-in

@@ -1,4 +1,4 @@
--- Which row of the board stands for what. Document 01, "What the box holds". Assumes nothing.
+-- Which row of the board stands for what. Document 01, "What the box holds".
 use mathlib.Core.Bool.{Bool, cond, _&&_}
 use mathlib.Core.List.{List, [], _∷_}
 use Prim.Native.Nat.{ℕ, zero, suc, _+_, _-_}

@@ -1,4 +1,4 @@
--- A row of eight words and the record that it stands for. Any words at all stand for one. Assumes nothing.
+-- A row of eight words and the record that it stands for. Any words at all stand for one.
 use mathlib.Core.Bool.{Bool, cond, not}
 use mathlib.Core.List.{List, [], _∷_}
 use Prim.Native.Nat.{ℕ}

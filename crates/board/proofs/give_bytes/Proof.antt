@@ -1,4 +1,4 @@
--- `board::give_bytes`. Assumes nothing.
+-- `board::give_bytes`.
 use mathlib.Core.Path.{refl, sym, _∙_}
 use borrow.Author.Tests.{lt-ltb, le-ltb, not-true, not-false}
 use Rattle.laws.proofs.Put.{put-none}

@@ -1,7 +1,6 @@
 -- `capi::wellacorn_bytes` meets its contract: a walk of its MIR, by hand. All that is lent is handed on for good: board, halves, rooms and reply
 -- to `board::bytes`, the row to `lent::put_pulse`, which stores the pulse that was accepted, or nothing where the place is past the row's end.
 -- No branch and no loop: only calls. Positions count the context: two entries for a local, the last local first, then what is owned and the tokens.
--- Assumes nothing.
 use mathlib.Core.Path.{_≡_, refl, subst, sym}
 use Prim.Native.Nat.{ℕ, _<_, _^_}
 use mathlib.Core.List.{List, [], _∷_}

@@ -1,7 +1,6 @@
 -- `capi::wellacorn_pass` meets its contract: a walk of its MIR, by hand. The board is lent to `pulses::at_once` for a lifetime of the call; where a pulse
 -- ends, it is lent again, with the row, to `wellacorn_pass_pulsed`. Both branches end alike, in `ends-so`. Positions count the context: two entries for
 -- a local, the last local first, then what is owned and the tokens.
--- Assumes nothing.
 use mathlib.Core.Path.{_≡_, refl, sym, ap, subst}
 use mathlib.Core.Bool.{cond}
 use Prim.Native.Nat.{ℕ, _<_, _^_}

@@ -2,7 +2,6 @@
 -- the row, and the board is lent again to `pulses::turn` for a lifetime of the call. The loop's invariant is the whole context, at the board and
 -- the time then, which `Passing` ties to those at entry; the measure is the number of pulses that wait. Positions count the context: two entries for
 -- a local, the last local first, then what is owned and the tokens.
--- Assumes nothing.
 use mathlib.Core.Path.{_≡_, refl, sym, ap, subst}
 use Prim.Native.Nat.{ℕ, _<_, _^_}
 use lib.WfN.{Nat·lt-wfRel}

@@ -1,4 +1,4 @@
--- `changes::has_level`: of a channel its level, of none false. Assumes nothing.
+-- `changes::has_level`: of a channel its level, of none false.
 use mathlib.Core.Path.{sym, _∙_}
 use borrow.Author.Needs.{needs}
 use Rattle.changes.proofs.has_level.Statement.{statement}

@@ -1,4 +1,4 @@
--- `changes::level`: a bad level, the level that the input has, or an edit. Assumes nothing.
+-- `changes::level`: a bad level, the level that the input has, or an edit.
 use mathlib.Core.Path.{sym, _∙_}
 use borrow.Author.Tests.{lt-ltb, le-ltb}
 use Rattle.changes.specs.Levels.{levelOf}

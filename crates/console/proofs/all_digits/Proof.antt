@@ -1,4 +1,4 @@
--- `console::all_digits`: what is left of the line answers as the whole does. Assumes nothing.
+-- `console::all_digits`: what is left of the line answers as the whole does.
 use mathlib.Core.Path.{_≡_, refl, sym, _∙_}
 use Prim.Native.Nat.{_-_, _≤_}
 use native.Mathlib.Omega.{arith}

@@ -1,4 +1,4 @@
--- `console::digit`. Assumes nothing.
+-- `console::digit`.
 use native.Mathlib.Omega.{arith}
 use borrow.Author.Needs.{needs}
 use borrow.Author.Tests.{le-leb, lt-leb}

@@ -1,4 +1,4 @@
--- `console::digits`. Assumes nothing.
+-- `console::digits`.
 use borrow.Author.Needs.{needs}
 use Rattle.console.specs.Digits.{shownOf}
 use Rattle.console.proofs.digits.Statement.{statement}

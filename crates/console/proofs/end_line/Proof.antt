@@ -1,4 +1,4 @@
--- `console::end_line`. Assumes nothing.
+-- `console::end_line`.
 use borrow.Author.Needs.{needs}
 use Rattle.console.specs.Console.{heldOf}
 use Rattle.console.proofs.Stepping.{line-ended}

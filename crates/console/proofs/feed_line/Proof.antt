@@ -1,4 +1,4 @@
--- `console::feed_line`. Assumes nothing.
+-- `console::feed_line`.
 use mathlib.Core.Path.{sym}
 use borrow.Author.Needs.{needs}
 use lib.Seq.{length-take-le}

@@ -1,4 +1,4 @@
--- `console::glyph`. Assumes nothing.
+-- `console::glyph`.
 use borrow.Author.Needs.{needs}
 use borrow.Author.Tests.{lt-ltb, le-ltb}
 use Rattle.console.proofs.glyph.Statement.{statement}

@@ -1,4 +1,4 @@
--- `console::is_digit`. Assumes nothing.
+-- `console::is_digit`.
 use native.Mathlib.Omega.{arith}
 use borrow.Author.Tests.{le-leb, lt-leb}
 use Rattle.console.specs.Digits.{isDigit}

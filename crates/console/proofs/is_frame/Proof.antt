@@ -1,4 +1,4 @@
--- `console::is_frame`. Assumes nothing.
+-- `console::is_frame`.
 use mathlib.Core.Path.{_∙_}
 use native.Mathlib.Omega.{arith}
 use borrow.Author.Needs.{needs}

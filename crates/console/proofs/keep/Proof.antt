@@ -1,4 +1,4 @@
--- `console::keep`. Assumes nothing.
+-- `console::keep`.
 use mathlib.Core.Path.{refl}
 use borrow.Author.Needs.{needs}
 use borrow.Author.Tests.{lt-ltb, le-ltb}

@@ -1,4 +1,4 @@
--- `console::parse`. Assumes nothing.
+-- `console::parse`.
 use mathlib.Core.Path.{refl, sym, ap, _∙_}
 use native.Mathlib.Nat.{zero-add}
 use borrow.Author.Needs.{needs}

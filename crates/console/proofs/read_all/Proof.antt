@@ -1,4 +1,4 @@
--- `console::read_all` is safe and ends: the measure is the number of turns that are left. Assumes nothing.
+-- `console::read_all` is safe and ends: the measure is the number of turns that are left.
 use native.Mathlib.Omega.{arith}
 use Rattle.console.proofs.read_all.Statement.{statement}
 use Rattle.console.proofs.read_all.Tie as tie

@@ -1,4 +1,4 @@
--- `console::read_on` is safe and ends. Assumes nothing.
+-- `console::read_on` is safe and ends.
 use mathlib.Core.Path.{sym, _∙_}
 use Prim.Native.Nat.{ℕ}
 use borrow.Author.Needs.{needs}

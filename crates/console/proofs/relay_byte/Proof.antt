@@ -1,4 +1,4 @@
--- `console::relay_byte`. Assumes nothing.
+-- `console::relay_byte`.
 use native.Mathlib.Omega.{arith}
 use borrow.Author.Needs.{needs}
 use Rattle.console.proofs.Showing.{Gathering, another-fits, gather-start, gather-turn, gather-done}

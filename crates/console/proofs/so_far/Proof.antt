@@ -1,4 +1,4 @@
--- `console::so_far`. Assumes nothing.
+-- `console::so_far`.
 use mathlib.Core.Path.{sym}
 use native.Mathlib.Omega.{arith}
 use borrow.Author.Needs.{needs}

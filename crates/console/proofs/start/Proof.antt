@@ -1,4 +1,4 @@
--- `console::start`. Assumes nothing.
+-- `console::start`.
 use mathlib.Core.Path.{_∙_}
 use borrow.Author.Needs.{needs}
 use Rattle.console.proofs.Starting.{opened}

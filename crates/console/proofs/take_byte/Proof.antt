@@ -1,4 +1,4 @@
--- `console::take_byte`. Assumes nothing.
+-- `console::take_byte`.
 use borrow.Author.Needs.{needs}
 use borrow.Author.Tests.{eq-eqb, ne-eqb}
 use Rattle.console.specs.Console.{heldOf, step, says}

@@ -1,4 +1,4 @@
--- `console::take_end`. Assumes nothing.
+-- `console::take_end`.
 use mathlib.Core.Path.{refl}
 use borrow.Author.Needs.{needs}
 use borrow.Author.Tests.{eq-eqb, ne-eqb}

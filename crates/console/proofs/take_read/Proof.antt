@@ -1,4 +1,4 @@
--- `console::take_read`: after i bytes the console holds what they make of it, and has said what they say. Assumes nothing.
+-- `console::take_read`: after i bytes the console holds what they make of it, and has said what they say.
 use mathlib.Core.Path.{_≡_}
 use Prim.Native.Nat.{_-_, _≤_, min}
 use native.Mathlib.Omega.{arith}

@@ -1,4 +1,4 @@
--- `console::unpack`. Assumes nothing.
+-- `console::unpack`.
 use Prim.Native.Nat.{_-_}
 use borrow.Author.Needs.{needs}
 use lib.ListN.{length}

@@ -1,4 +1,4 @@
--- `console::write_out`. Assumes nothing.
+-- `console::write_out`.
 use mathlib.Core.Path.{sym}
 use native.Mathlib.Omega.{arith}
 use borrow.Author.Needs.{needs}

@@ -1,4 +1,4 @@
--- `framing::content`: the part's last byte ends the message where as many bytes are there as are left of it. Assumes nothing.
+-- `framing::content`: the part's last byte ends the message where as many bytes are there as are left of it.
 use Prim.Native.Nat.{_+_}
 use native.Mathlib.Omega.{arith}
 use borrow.Author.Tests.{lt-ltb, le-ltb}

@@ -1,4 +1,4 @@
--- `framing::turn`. Assumes nothing.
+-- `framing::turn`.
 use mathlib.Core.Path.{_∙_}
 use native.Mathlib.Omega.{arith}
 use borrow.Author.Needs.{needs}

@@ -1,4 +1,4 @@
--- `framing::two_at`. Assumes nothing.
+-- `framing::two_at`.
 use mathlib.Core.Path.{ap₂, _∙_}
 use Prim.Native.Nat.{ℕ, _+_, _*_}
 use native.Mathlib.Numerals.{add-one}

@@ -1,4 +1,4 @@
--- `layouts::if_lasting`: by the test on the duration. Assumes nothing.
+-- `layouts::if_lasting`: by the test on the duration.
 use Rattle.laws.proofs.Tests.{tests}
 use Rattle.layouts.specs.Layouts.{ifLasting}
 use Rattle.layouts.proofs.if_lasting.Statement.{statement}

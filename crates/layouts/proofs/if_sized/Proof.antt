@@ -1,4 +1,4 @@
--- `layouts::if_sized`: by the test on the length. Assumes nothing.
+-- `layouts::if_sized`: by the test on the length.
 use Rattle.laws.proofs.Tests.{tests}
 use Rattle.layouts.specs.Layouts.{ifSized}
 use Rattle.layouts.proofs.if_sized.Statement.{statement}

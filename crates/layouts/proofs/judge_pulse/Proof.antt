@@ -1,4 +1,4 @@
--- `layouts::judge_pulse`: by the tests on the action. Assumes nothing.
+-- `layouts::judge_pulse`: by the tests on the action.
 use mathlib.Core.Path.{_∙_}
 use borrow.Author.Needs.{needs}
 use borrow.Author.Tests.{eq-eqb, ne-eqb}

@@ -1,6 +1,5 @@
 -- `lent::pulse_at` meets its contract: a walk of its MIR, by hand. A branch on the count: within, the slice is looked into, element i is taken out of the row,
 -- copied and put back; past the end, the record of zeros is made.
--- Assumes nothing.
 use mathlib.Core.Path.{_≡_, refl, sym}
 use Prim.Native.Nat.{ℕ, _<_, _*_, _^_}
 use native.Mathlib.Omega.{arith}

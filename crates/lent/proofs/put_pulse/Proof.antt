@@ -1,6 +1,5 @@
 -- `lent::put_pulse` meets its contract: a walk of its MIR, by hand. A branch on the count: within, the borrow is opened, element i is taken out of the row and
 -- stored to, and the borrow is closed at the row with the record in it; past the end, nothing is done.
--- Assumes nothing.
 use mathlib.Core.Path.{_≡_, refl, sym, ap, subst}
 use Prim.Native.Nat.{ℕ, _<_, _*_, _^_}
 use native.Mathlib.Omega.{arith}

@@ -1,4 +1,4 @@
--- `marks::mark`: each turn marks one connection in place. Assumes nothing.
+-- `marks::mark`: each turn marks one connection in place.
 use Prim.Native.Nat.{_-_}
 use native.Mathlib.Omega.{arith}
 use Rattle.rows.proofs.Range.{Ranging, range-start, range-turn, range-done}

@@ -1,4 +1,4 @@
--- `marks::mark_line`. Assumes nothing.
+-- `marks::mark_line`.
 use mathlib.Core.Path.{sym, _∙_}
 use borrow.Author.Needs.{needs}
 use Rattle.marks.proofs.mark_line.Statement.{statement}

@@ -1,4 +1,4 @@
--- `marks::watching`. Assumes nothing.
+-- `marks::watching`.
 use borrow.Author.Needs.{needs}
 use Rattle.marks.proofs.watching.Statement.{statement}
 use Rattle.marks.proofs.watching.Tie as tie

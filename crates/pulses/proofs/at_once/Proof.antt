@@ -1,4 +1,4 @@
--- `pulses::at_once`: the row is too short, a pulse ends, or none. Assumes nothing.
+-- `pulses::at_once`: the row is too short, a pulse ends, or none.
 use mathlib.Core.Path.{refl, sym, _∙_}
 use borrow.Author.Tests.{lt-ltb, le-ltb}
 use Rattle.pulses.specs.Pulses.{waited}

@@ -1,4 +1,4 @@
--- `pulses::begin`: the queue first, then the relays. Assumes nothing.
+-- `pulses::begin`: the queue first, then the relays.
 use mathlib.Core.Path.{_∙_}
 use Rattle.pulses.specs.Pulses.{begun}
 use borrow.Author.Needs.{needs}

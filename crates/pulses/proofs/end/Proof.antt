@@ -1,4 +1,4 @@
--- `pulses::end`: the queue first, then the relays. Assumes nothing.
+-- `pulses::end`: the queue first, then the relays.
 use mathlib.Core.Path.{_∙_}
 use Rattle.pulses.specs.Pulses.{ended}
 use borrow.Author.Needs.{needs}

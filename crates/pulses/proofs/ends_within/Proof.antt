@@ -1,4 +1,4 @@
--- `pulses::ends_within`: runs, or not. Assumes nothing.
+-- `pulses::ends_within`: runs, or not.
 use borrow.Author.Tests.{lt-ltb, le-ltb}
 use borrow.Author.Needs.{needs}
 use Rattle.pulses.proofs.ends_within.Statement.{statement}

@@ -1,4 +1,4 @@
--- `pulses::follow`: one waits, or none. Assumes nothing.
+-- `pulses::follow`: one waits, or none.
 use borrow.Author.Tests.{lt-ltb, le-ltb}
 use borrow.Author.Needs.{needs}
 use Rattle.pulses.proofs.follow.Statement.{statement}

@@ -1,4 +1,4 @@
--- `pulses::go_on`: a pulse ends within the ms, or none. Assumes nothing.
+-- `pulses::go_on`: a pulse ends within the ms, or none.
 use mathlib.Core.Path.{refl, sym, _∙_}
 use Rattle.pulses.specs.Passing.{onward}
 use borrow.Author.Needs.{needs}

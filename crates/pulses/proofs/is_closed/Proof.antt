@@ -1,4 +1,4 @@
--- `pulses::is_closed`. Assumes nothing.
+-- `pulses::is_closed`.
 use borrow.Author.Needs.{needs}
 use Rattle.pulses.proofs.is_closed.Statement.{statement}
 use Rattle.pulses.proofs.is_closed.Tie as tie

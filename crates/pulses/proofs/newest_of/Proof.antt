@@ -1,4 +1,4 @@
--- `pulses::newest_of`. Assumes nothing.
+-- `pulses::newest_of`.
 use Rattle.pulses.specs.Pulses.{newest}
 use borrow.Author.Needs.{needs}
 use Rattle.pulses.proofs.newest_of.Statement.{statement}

@@ -1,4 +1,4 @@
--- `pulses::pop`. Assumes nothing.
+-- `pulses::pop`.
 use borrow.Author.Needs.{needs}
 use Rattle.pulses.proofs.pop.Statement.{statement}
 use Rattle.pulses.proofs.pop.Tie as tie

@@ -1,4 +1,4 @@
--- `pulses::push`: refused, begun at once, or behind the others. Assumes nothing.
+-- `pulses::push`: refused, begun at once, or behind the others.
 use mathlib.Core.Path.{refl, _∙_}
 use native.Mathlib.Omega.{arith}
 use borrow.Author.Tests.{le-leb, lt-leb, lt-ltb, le-ltb}

@@ -1,4 +1,4 @@
--- `pulses::relay_pulse`: a channel, or none. Assumes nothing.
+-- `pulses::relay_pulse`: a channel, or none.
 use Prim.Native.Nat.{_-_}
 use mathlib.Core.Path.{sym, _∙_}
 use native.Mathlib.Omega.{arith}

@@ -1,4 +1,4 @@
--- `pulses::run_down`: a pulse runs, or none. Assumes nothing.
+-- `pulses::run_down`: a pulse runs, or none.
 use mathlib.Core.Path.{_∙_}
 use borrow.Author.Tests.{lt-ltb, le-ltb}
 use borrow.Author.Needs.{needs}

@@ -1,4 +1,4 @@
--- `pulses::seat`: a place, or none. Assumes nothing.
+-- `pulses::seat`: a place, or none.
 use borrow.Author.Tests.{lt-ltb, le-ltb}
 use Rattle.pulses.specs.Pulses.{seatOf}
 use borrow.Author.Needs.{needs}

@@ -1,4 +1,4 @@
--- `pulses::states_of`: a bit a turn. Assumes nothing.
+-- `pulses::states_of`: a bit a turn.
 use Prim.Native.Nat.{_-_}
 use Rattle.pulses.proofs.Bits.{Joining, join-start, join-fits, join-turn, join-done}
 use borrow.Author.Needs.{needs}

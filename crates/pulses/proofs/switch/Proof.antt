@@ -1,4 +1,4 @@
--- `pulses::switch`: a change, and its marks. Assumes nothing.
+-- `pulses::switch`: a change, and its marks.
 use mathlib.Core.Path.{_∙_}
 use Rattle.pulses.specs.Pulses.{switched}
 use borrow.Author.Needs.{needs}

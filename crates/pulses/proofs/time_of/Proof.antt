@@ -1,4 +1,4 @@
--- `pulses::time_of`: the row is long enough, or too short. Assumes nothing.
+-- `pulses::time_of`: the row is long enough, or too short.
 use mathlib.Core.Path.{refl}
 use borrow.Author.Tests.{lt-ltb, le-ltb}
 use Rattle.pulses.specs.Passing.{startOf}

@@ -1,4 +1,4 @@
--- `pulses::turn`: up to the end, the end, the beginning, and on. Assumes nothing.
+-- `pulses::turn`: up to the end, the end, the beginning, and on.
 use mathlib.Core.Path.{_∙_}
 use Rattle.pulses.specs.Pulses.{turned}
 use Rattle.pulses.specs.Passing.{turnOf}

@@ -1,4 +1,4 @@
--- `pulses::wait`: time passes, and the running pulse runs down. Assumes nothing.
+-- `pulses::wait`: time passes, and the running pulse runs down.
 use mathlib.Core.Path.{_∙_}
 use Rattle.pulses.specs.Pulses.{waited}
 use borrow.Author.Needs.{needs}

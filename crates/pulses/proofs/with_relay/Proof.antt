@@ -1,4 +1,4 @@
--- `pulses::with_relay`: its bit, or none. Assumes nothing.
+-- `pulses::with_relay`: its bit, or none.
 use native.Mathlib.Omega.{arith}
 use lib.Pow.{pow-mono}
 use Rattle.pulses.proofs.Bits.{weight}

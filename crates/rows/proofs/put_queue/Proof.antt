@@ -1,4 +1,4 @@
--- `rows::put_queue`: its row, whole. Assumes nothing.
+-- `rows::put_queue`: its row, whole.
 use Rattle.rows.specs.Places.{putQueue}
 use borrow.Author.Needs.{needs}
 use Rattle.rows.proofs.put_queue.Statement.{statement}

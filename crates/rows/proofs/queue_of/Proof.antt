@@ -1,4 +1,4 @@
--- `rows::queue_of`: its row. Assumes nothing.
+-- `rows::queue_of`: its row.
 use Rattle.rows.specs.Places.{queueOf}
 use borrow.Author.Needs.{needs}
 use Rattle.rows.proofs.queue_of.Statement.{statement}

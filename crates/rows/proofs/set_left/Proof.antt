@@ -1,4 +1,4 @@
--- `rows::set_left`: one word. Assumes nothing.
+-- `rows::set_left`: one word.
 use mathlib.Core.Path.{refl}
 use Rattle.rows.specs.Places.{leftSet}
 use borrow.Author.Needs.{needs}

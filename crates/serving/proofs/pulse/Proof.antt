@@ -1,4 +1,4 @@
--- `serving::pulse`: accepted, or refused. Assumes nothing.
+-- `serving::pulse`: accepted, or refused.
 use borrow.Author.Needs.{needs}
 use Rattle.serving.proofs.Silent.{pulse-gives}
 use Rattle.serving.proofs.pulse.Statement.{statement}

@@ -1,4 +1,4 @@
--- `tables::pass_pulsed`: each turn lets the time pass for one row; the clock is grown before and stored behind. Assumes nothing.
+-- `tables::pass_pulsed`: each turn lets the time pass for one row; the clock is grown before and stored behind.
 use Prim.Native.Nat.{_-_}
 use mathlib.Core.Path.{_∙_}
 use native.Mathlib.Omega.{arith}

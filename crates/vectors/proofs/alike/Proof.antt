@@ -1,4 +1,4 @@
--- `vectors::alike`. Assumes nothing.
+-- `vectors::alike`.
 use borrow.Author.Needs.{needs}
 use native.Mathlib.Omega.{arith}
 use mathlib.Core.Path.{sym}

@@ -1,4 +1,4 @@
--- `vectors::places`: no more cuts are alike than there are. Assumes nothing.
+-- `vectors::places`: no more cuts are alike than there are.
 use Prim.Native.Nat.{_≤_, _-_}
 use lib.ListN.{length}
 use mathlib.Core.Logic.{⊎-elim}

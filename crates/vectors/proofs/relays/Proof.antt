@@ -1,4 +1,4 @@
--- `vectors::relays`: sum and weight stay bytes. Assumes nothing.
+-- `vectors::relays`: sum and weight stay bytes.
 use Prim.Native.Nat.{_<_, _≤_, _-_}
 use mathlib.Core.Logic.{⊎-elim}
 use lib.Dec.{lit<, lit≤}

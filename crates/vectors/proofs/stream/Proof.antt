@@ -1,4 +1,4 @@
--- `vectors::stream`: the turns are counted. Assumes nothing.
+-- `vectors::stream`: the turns are counted.
 use Prim.Native.Nat.{_≤_, _-_}
 use lib.ListN.{length}
 use borrow.Author.Needs.{needs}

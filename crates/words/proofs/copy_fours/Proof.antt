@@ -1,4 +1,4 @@
--- `words::copy_fours`: four bytes more each turn. Assumes nothing.
+-- `words::copy_fours`: four bytes more each turn.
 use mathlib.Core.Path.{_≡_, refl, sym}
 use Prim.Native.Nat.{_-_, _≤_, zero-le}
 use lib.ListN.{length, take, length-set}

@@ -1,4 +1,4 @@
--- `words::copy_rest`: what is still to be copied gives, behind what is there, what all of it gives. Assumes nothing.
+-- `words::copy_rest`: what is still to be copied gives, behind what is there, what all of it gives.
 use mathlib.Core.Path.{_≡_, refl, _∙_}
 use Prim.Native.Nat.{_-_, _+_, _≤_}
 use lib.ListN.{length, drop}
