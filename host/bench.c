@@ -197,15 +197,15 @@ static uint8_t many[READ];
 static uint8_t oversize[OVERSIZE];
 
 static const row rows[] = {
-    {"small commands, one a call", "calls", COMMANDS, PIECES, commands, sizeof commands, SMALL},
+    {"small commands, one per call", "calls", COMMANDS, PIECES, commands, sizeof commands, SMALL},
     {"mixed frames, drained from 64 KiB", "bytes", STREAM, DRAIN, stream, STREAM, 0},
-    {"mixed frames, a byte a call", "calls", SINGLE, PIECES, stream, SINGLE, 1},
+    {"mixed frames, one byte per call", "calls", SINGLE, PIECES, stream, SINGLE, 1},
     {"ReadDevices of 127 IDs", "calls", 1, PIECES, many, sizeof many, sizeof many},
     {"pass", "calls", EVENTS, PASS, NULL, EVENTS, 0},
     {"level, pass and collect", "calls", 3 * EVENTS, COLLECT, NULL, EVENTS, 0},
-    {"oversize message swallowed", "bytes", OVERSIZE, PIECES, oversize, sizeof oversize, sizeof oversize},
+    {"oversize message swallowed", "calls", 1, PIECES, oversize, sizeof oversize, sizeof oversize},
     {"pulse of 1 ms asked for, 1 ms", "calls", 1 + 1, PULSED, short_pulse, ASKED, 1},
-    {"pulse of 64 ms, 1 ms a call", "calls", 1 + EVENTS, PULSED, long_pulse, ASKED, EVENTS},
+    {"pulse of 64 ms, 1 ms per call", "calls", 1 + EVENTS, PULSED, long_pulse, ASKED, EVENTS},
     {"31 pulses asked for, ended in one", "calls", WELLACORN_PULSES + 1, QUEUED, short_pulses, sizeof short_pulses, ASKED},
 };
 

@@ -1,4 +1,4 @@
-/* What the host prints: a line an event, with the time of day before it. Nothing here ever waits for the reader of standard output: what he
+/* What the host prints: one line for each event, with the time of day before it. Nothing here ever waits for the reader of standard output: what he
  * does not read is kept up to a limit, and lines beyond it are counted and left out, so that no client of the box is delayed by a pipe. */
 #ifndef SAY_H
 #define SAY_H
