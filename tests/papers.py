@@ -62,10 +62,10 @@ for name, crate, file in re.findall(r"\*\*([\w′-]+)\*\* \(([a-z]+)/([A-Z]\w*)\
         wrong.append("TRACE: no theorem %s in %s/proofs/%s" % (name, crate, file))
 for name in re.findall(r"\*\*([\w′-]+)\*\*(?! \([a-z]+/[A-Z])", trace):
     wrong.append("TRACE: theorem %s without its place" % name)
-for label in re.findall(r"(?<!\*)\*([a-z][a-z0-9_]*)\*(?!\*)", trace):
+for crate, label in re.findall(r"(?<!\*)\*(?:([a-z]+)/)?([a-z][a-z0-9_]*)\*(?!\*)", trace):
     counts["edits"] += 1
-    if label not in every_edit:
-        wrong.append("TRACE: no edit %s" % label)
+    if label not in (edits(crate) if crate else every_edit):
+        wrong.append("TRACE: no edit %s/%s" % (crate, label))
 
 vectors = read("crates/vectors/stdout")
 for line in re.findall(r"vectors: ([^;|]+)", trace):

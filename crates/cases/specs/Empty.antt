@@ -1,4 +1,4 @@
--- The four empty versions that 01 has tried, as properties of any machine that answers the box's calls.
+-- The empty versions of 01, Register, 4, as properties of any machine that answers the box's calls.
 use mathlib.Core.Path.{_≡_}
 use mathlib.Core.List.{List, []}
 use Prim.Native.Nat.{ℕ, _≤_}
@@ -23,11 +23,11 @@ abbrev pub opened : Tables
 opened = tablesOf (after [])
 
 module _ (M : Machine served) (x : M .State) where
-  -- "one refusing everything": each call from here on has one of the numbers from 3 on
+  -- 01, Register, 4: it refuses all: each call from here on has one of the numbers from 3 on
   abbrev pub RefusesAll : Type 0
   RefusesAll = (k : Call served) → 3 ≤ shown (M .call x k .1 .said) .number
 
-  -- "one replying the same always": the same number, or the same bytes, whatever the calls are
+  -- 01, Register, 4: it always says the same: the same number, or the same bytes, whatever the calls are
   abbrev pub SameNumber : ℕ → Type 0
   SameNumber n = (before : List (Call served)) (k : Call served) → shown (M .call (final served M x before) k .1 .said) .number ≡ n
 

@@ -11,7 +11,7 @@ use Rattle.cases.specs.Empty.{shown}
 abbrev pub boxWith : (Held → Call served → Held × Answer served) → Machine served
 boxWith call = record { State = Held; tables = tablesOf; call = call }
 
--- "one half-read store for two connections": connection d has what connection c has read
+-- 01, Mistakes, 1: one store for what is half read: connection d has what connection c has read
 abbrev pub lending : ℕ → ℕ → Held → Held
 lending c d x = held (x .board) (putHalf d (halfAt c (x .halves)) (x .halves)) (putRoom d (roomAt c (x .rooms)) (x .rooms)) (x .row)
 
@@ -25,7 +25,7 @@ abbrev pub mutedCall : Held → Call served → Held × Answer served
 mutedCall x (bytes c room piece) = (boxCall x (bytes c room piece) .0, answer served (boxCall x (bytes c room piece) .1 .taken) waits)
 mutedCall x (other e) = boxCall x (other e)
 
--- a message half read at a closing is kept, and read on after the next opening: no event touches the half-read messages
+-- not as 01, Events, 4, has it: what is half read stays over a closing and is read on after the next opening; no event touches it
 abbrev pub keepingCall : Held → Call served → Held × Answer served
 keepingCall x (bytes c room piece) = boxCall x (bytes c room piece)
 keepingCall x (other e) = (held (boxCall x (other e) .0 .board) (x .halves) (x .rooms) (x .row), boxCall x (other e) .1)

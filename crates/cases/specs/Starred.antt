@@ -1,4 +1,4 @@
--- The starred cases of document 01, "Both sides of each edge", as one table: what the box does, through its calls, and what 01 owes.
+-- The starred cases of 01, Edges, as one table: what the box does, through its calls, and what 01 owes.
 use mathlib.Core.Bool.{false, cond}
 use mathlib.Core.List.{List, [], _∷_, _++_}
 use Prim.Native.Nat.{ℕ, _+_, _*_}
@@ -27,18 +27,18 @@ told v = other (level 1 v)
 abbrev pub collects : Call served
 collects = other (collect 0 4096)
 
--- "10 Command"
+-- 01, Messages, 10: a block, and a toggle
 abbrev pub blockWith : ℕ → ℕ → Call served
 blockWith mask state = sends (0x0A ∷ 0x0A ∷ mask ∷ state ∷ [])
 
 abbrev pub toggles : ℕ → Call served
 toggles channel = sends (0x0A ∷ 0x03 ∷ 0x00 ∷ channel ∷ [])
 
--- "21 ReadDevices", of input 1
+-- 01, Messages, 21: input 1 is read
 abbrev pub readsInput : Call served
 readsInput = sends (0x15 ∷ 0x00 ∷ 0x01 ∷ 0 ∷ 0 ∷ 0 ∷ 0 ∷ 0 ∷ 0 ∷ 0x01 ∷ 0xFF ∷ [])
 
--- "23 WriteDevices", of input 1: flags, and the count's four bytes
+-- 01, Messages, 23: input 1 is written: flags, and the count's four bytes
 abbrev pub writesInput : ℕ → List ℕ → Call served
 writesInput flags count = sends ((0x17 ∷ 0x00 ∷ 0x01 ∷ 0 ∷ 0 ∷ 0 ∷ 0 ∷ 0 ∷ 0 ∷ 0x01 ∷ 0xFF ∷ 0x00 ∷ 0x05 ∷ flags ∷ []) ++ count)
 
@@ -83,54 +83,54 @@ abbrev pub row : List ℕ → List ℕ → Row
 row does owes = record { does = does; owes = owes }
 
 -- THE STARRED CASES, in 01's order
--- 01, Both sides of each edge, 1: a rise reaches the largest count, and stays there
+-- 01, Edges, 2: a rise reaches the largest count, and stays there
 unfoldable pub countTop : List Row
 countTop =
     row (count (writesInput 2 (0xFF ∷ 0xFF ∷ 0xFF ∷ 0xFE ∷ []) ∷ []) ∷ []) (4294967294 ∷ []) ∷
     row (count (writesInput 2 (0xFF ∷ 0xFF ∷ 0xFF ∷ 0xFE ∷ []) ∷ told 1 ∷ []) ∷ []) (4294967295 ∷ []) ∷
     row (count (writesInput 2 (0xFF ∷ 0xFF ∷ 0xFF ∷ 0xFE ∷ []) ∷ told 1 ∷ told 0 ∷ told 1 ∷ []) ∷ []) (4294967295 ∷ []) ∷ []
 
--- 2: an input that is on, told on: neither count nor mark changes; what was not due stays so, and what was due stays so
+-- 01, Edges, 3: an input that is on, told on: neither count nor mark changes; what was not due stays so, and what was due stays so
 unfoldable pub toldAgain : List Row
 toldAgain =
     row (count (told 1 ∷ collects ∷ []) ∷ due (told 1 ∷ collects ∷ []) ∷ []) (1 ∷ 0 ∷ []) ∷
     row (number (told 1 ∷ collects ∷ []) (told 1) ∷ count (told 1 ∷ collects ∷ told 1 ∷ []) ∷ due (told 1 ∷ collects ∷ told 1 ∷ []) ∷ []) (1 ∷ 1 ∷ 0 ∷ []) ∷
     row (count (told 1 ∷ told 1 ∷ []) ∷ due (told 1 ∷ told 1 ∷ []) ∷ []) (1 ∷ 1 ∷ []) ∷ []
 
--- 3: relays 00000101 under mask 00000110 and state 00000010 are 00000011
+-- 01, Edges, 4: a block over closed relays 1 and 3: of relays 2 and 3 it closes the one and opens the other
 abbrev pub maskedBlock : List Row
 maskedBlock =
     row (relays (blockWith 5 5 ∷ []) ∷ relays (blockWith 5 5 ∷ blockWith 6 2 ∷ []) ∷ []) (5 ∷ 3 ∷ []) ∷ []
 
--- 4: mask 0 answers 1 and marks nothing, whatever the state byte is
+-- 01, Edges, 5: mask 0 answers 1 and marks nothing, whatever the state byte is
 abbrev pub maskZero : List Row
 maskZero =
     row (number (collects ∷ []) (blockWith 0 255) ∷ due (collects ∷ blockWith 0 255 ∷ []) ∷ relays (blockWith 0 255 ∷ []) ∷ []) (1 ∷ 0 ∷ 0 ∷ []) ∷ []
 
--- 5: channel 8 toggles; channels 9 and 0 are refused with 11
+-- 01, Edges, 6: channel 8 toggles; channels 9 and 0 are refused with 11
 unfoldable pub channelEdges : List Row
 channelEdges =
     row (number [] (toggles 8) ∷ relays (toggles 8 ∷ []) ∷ relays (toggles 8 ∷ toggles 8 ∷ []) ∷ []) (1 ∷ 128 ∷ 0 ∷ []) ∷
     row (number [] (toggles 9) ∷ relays (toggles 9 ∷ []) ∷ []) (11 ∷ 0 ∷ []) ∷
     row (number [] (toggles 0) ∷ relays (toggles 0 ∷ []) ∷ []) (11 ∷ 0 ∷ []) ∷ []
 
--- 6: N = 0 with 0xFFFF is refused with 8
+-- 01, Edges, 7: no content, unchecked, is refused with 8
 abbrev pub emptyContent : List Row
 emptyContent =
     row (number [] (sends []) ∷ []) (8 ∷ []) ∷ []
 
--- 7: request 4 with its interval, 7 bytes, is served; 6 bytes are refused with 10
+-- 01, Edges, 8: request 4 with its interval, 7 bytes, is served; 6 bytes are refused with 10
 abbrev pub requestLengths : List Row
 requestLengths =
     row (number [] (sends (0x05 ∷ 0x00 ∷ 0x04 ∷ 0 ∷ 0 ∷ 0 ∷ 1 ∷ [])) ∷ []) (1 ∷ []) ∷
     row (number [] (sends (0x05 ∷ 0x00 ∷ 0x04 ∷ 0 ∷ 0 ∷ 1 ∷ [])) ∷ []) (10 ∷ []) ∷ []
 
--- 8: write flags 3 with count 7 leave 7
+-- 01, Edges, 9: flags 1 and 2 together leave the written count
 abbrev pub resetAndWrite : List Row
 resetAndWrite =
     row (number [] (writesInput 3 (0 ∷ 0 ∷ 0 ∷ 7 ∷ [])) ∷ count (writesInput 3 (0 ∷ 0 ∷ 0 ∷ 7 ∷ []) ∷ []) ∷ []) (1 ∷ 7 ∷ []) ∷ []
 
--- 9: setpoint 100: no alarm at 100, an alarm at 101; the first count alarm is byte 24 of a read block's reply and byte 28 of a Monitor message
+-- 01, Edges, 10: a count at its setpoint and one above; the first count alarm is byte 24 of a read block's reply and byte 28 of a Monitor message
 abbrev pub setpointEdge : List Row
 setpointEdge =
     row (replyByte (writesInput 2 (0 ∷ 0 ∷ 0 ∷ 100 ∷ []) ∷ []) readsInput 24 ∷ replyByte (writesInput 2 (0 ∷ 0 ∷ 0 ∷ 100 ∷ []) ∷ []) collects 28 ∷ []) (0 ∷ 0 ∷ []) ∷

@@ -1,4 +1,4 @@
--- What a change of one input or relay answers. Document 01, "Answer numbers" and "Events besides bytes".
+-- What a change of one input or relay answers: 01, Answer numbers, lines 1 and 11, and Events, 6.
 use mathlib.Core.Path.{_≡_}
 use mathlib.Core.Bool.{Bool, Bool·beq, false, cond, not}
 use Prim.Native.Nat.{ℕ}
@@ -7,7 +7,7 @@ use Rattle.rows.specs.declared.Relay.{Relay}
 use Rattle.rows.specs.Places.{Board, isChannel, inputAt, relayAt, putInput, putRelay}
 use Rattle.changes.specs.declared.Changed.{Changed}
 
--- what a change comes to: the whole board then, 01's answer number, and whether "the level of an input or the state of a relay really changes"
+-- what a change comes to: the whole board then, 01's answer number, and whether a level or a relay's state is another (01, Events, 6)
 pub record Change : Type 0 where
   pub board : Board
   pub answer : ℕ
@@ -22,30 +22,30 @@ pub record Makes (m : Change) (b : Board) (r : Changed) : Type 0 where
   pub leaves : b ≡ m .board
   pub gives : r ≡ given m
 
--- "11: action, request, channel, input, level or flags out of range"
+-- 01, Answer numbers, line 11: something is out of range
 abbrev pub noChange : Changed
 noChange = record { answer = 11; changed = false }
 
--- 01, Answer numbers, 1: served, and nothing of it really changed
+-- 01, Answer numbers, line 1: served, and nothing of it really changed
 abbrev pub sameAgain : Changed
 sameAgain = record { answer = 1; changed = false }
 
--- "1: served"
+-- 01, Answer numbers, line 1: served
 abbrev pub served : Bool → Board → Change
 served changed t = record { answer = 1; changed = changed; board = t }
 
--- so answered, it "changes nothing at all"
+-- 01, Answer numbers, line 11, and 6: refused, and no word of the board is another
 abbrev pub refused : Board → Change
 refused t = record { answer = 11; changed = false; board = t }
 
--- "really changes": the two are not equal
+-- 01, Events, 6: a real change: the two are not equal
 abbrev pub differ : Bool → Bool → Bool
 differ before after = not (Bool·beq before after)
 
--- input k becomes what f makes of it, which "really changes" it where its level changes; a number that is no input's is refused
+-- input k becomes what f makes of it, a real change where its level is another; a number that is no input's is refused
 unfoldable pub onInput : (Input → Input) → ℕ → Board → Change
 onInput f k t = cond (isChannel k) (served (differ (inputAt k t .level) (f (inputAt k t) .level)) (putInput k (f (inputAt k t)) t)) (refused t)
 
--- relay k becomes what f makes of it, which "really changes" it where its state changes; a number that is no relay's is refused
+-- relay k becomes what f makes of it, a real change where its state is another; a number that is no relay's is refused
 unfoldable pub onRelay : (Relay → Relay) → ℕ → Board → Change
 onRelay f k t = cond (isChannel k) (served (differ (relayAt k t .closed) (f (relayAt k t) .closed)) (putRelay k (f (relayAt k t)) t)) (refused t)

@@ -1,4 +1,4 @@
--- The level of an input. Document 01, "Events besides bytes".
+-- The level of an input: 01, Events, 1.
 use mathlib.Core.Bool.{Bool, Bool·beq, false, cond, not, _&&_}
 use Prim.Native.Nat.{ℕ, _+_, min}
 use lib.Dec.{eqb, ltb}
@@ -7,11 +7,11 @@ use Rattle.rows.specs.Places.{Board, isChannel, inputAt}
 use Rattle.tables.specs.Held.{leveled, counted}
 use Rattle.changes.specs.Answers.{Change, served, refused, onInput}
 
--- "Off to on adds one to the count, which stays at 4294967295 once there."
+-- 01, Events, 1: a rise counts one more, up to 4294967295
 abbrev pub raised : Bool → Bool → ℕ → ℕ
 raised before after count = cond (not before && after) (min (count + 1) 4294967295) count
 
--- an input that is told its level
+-- 01, Events, 1: an input that is told its level
 unfoldable pub told : Bool → Input → Input
 told on i = leveled on (counted (raised (i .level) on (i .count)) i)
 

@@ -22,7 +22,7 @@ pub struct Changed {
     pub changed: bool,
 }
 
-// Nothing is changed: 11, of a channel, a level or flags out of range.
+// Out of range, 11: nothing is changed.
 pub fn refuse() -> Changed
     ensures { λ r. ⌜ r ≡ noChange ⌝ }
 {
@@ -218,7 +218,7 @@ pub fn level(board: &mut [[u64; 8]; ROWS], input: u8, level: u8) -> Changed
     edit_input(board, input as u16, InputEdit::Tell(on))
 }
 
-// The actions of a Command message that have a channel: 1 close, 2 open, 3 toggle, 5 clear input count, 8 clear input usage, 9 clear relay usage.
+// The actions of a Command message that have a channel, in the order of their numbers: 1, 2, 3, 5, 8 and 9.
 pub fn close_relay(board: &mut [[u64; 8]; ROWS], channel: u16) -> Changed
     ensures { λ r. ⌜ Makes (closeRelay channel (now (board .entry))) (now (board .exit)) r ⌝ }
 {
@@ -298,7 +298,7 @@ pub fn write_input(board: &mut [[u64; 8]; ROWS], k: u8, flags: u8, count: u32) -
     edit_input(board, k as u16, InputEdit::Write(flags, count as u64))
 }
 
-// A flag is unknown, or a state that is written is above 1. A state whose flag is not set is not used.
+// There is no such flag, or a state above 1 is to be written. A state whose flag is not set is not used.
 fn relay_fails(flags: u8, state: u8) -> bool
     ensures { λ r. ⌜ r ≡ relayFails flags state ⌝ }
 {

@@ -40,7 +40,7 @@ ended h =
     held (lineHeld h .did .board) (lineHalves (soFar h) (h .board) (h .halves) (h .rooms)) (lineRooms (soFar h) (h .board) (h .halves) (h .rooms))
     (h .line) 0 (put 0 (lineHeld h .did .reply) (h .reply))
 
--- a character is kept while there is room for 2,059, so that "over 2,058 digits" is known; of a longer line no more is kept
+-- 01, Console, 4: a character is kept while there is room for 2,059, so that a line that is too long is known; no more of it is kept
 unfoldable pub kept : ℕ → Held → Held
 kept b h = cond (ltb (h .used) 2059) (held (h .board) (h .halves) (h .rooms) (set (h .line) (h .used) b) (h .used + 1) (h .reply)) h
 

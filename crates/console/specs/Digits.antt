@@ -1,4 +1,4 @@
--- Hexadecimal lines and the four digits of an answer. Document 01, "A console program reads standard input".
+-- Hexadecimal lines and the four digits of an answer: 01, Console, 1 to 4.
 use mathlib.Core.Bool.{Bool, true, cond, _&&_, _||_}
 use mathlib.Core.List.{List, [], _∷_}
 use mathlib.Core.Option.{Option, none, some}
@@ -9,7 +9,7 @@ use Rattle.rows.specs.declared.Relay.{Relay}
 use Rattle.console.specs.declared.Parsed.{Parsed}
 use Rattle.console.specs.declared.Parsed.the-variants.{Bytes, Bad}
 
--- the characters 0 to 9, and A to F: "hexadecimal [..] upper case"
+-- 01, Console, 1: the characters 0 to 9, and A to F
 abbrev pub isDecimal : ℕ → Bool
 isDecimal c = leb 48 c && leb c 57
 
@@ -28,17 +28,17 @@ unfoldable pub allDigits : List ℕ → Bool
 allDigits [] = true
 allDigits (c ∷ cs) = isDigit c && allDigits cs
 
--- "A line that is empty, odd, not upper-case hexadecimal or over 2,058 digits feeds nothing"
+-- 01, Console, 4: which lines feed: some characters, an even number of them, 2,058 at most, all digits
 unfoldable pub feeds : List ℕ → Bool
 feeds line = ltb 0 (length line) && (eqb (length line % 2) 0 && (leb (length line) 2058 && allDigits line))
 
--- a byte for every two digits, the high one first
+-- 01, Console, 1: a byte for every two digits, the high one first
 unfoldable pub pairs : List ℕ → List ℕ
 pairs [] = []
 pairs (a ∷ []) = []
 pairs (a ∷ (b ∷ cs)) = (digitOf a * 16 + digitOf b) ∷ pairs cs
 
--- "A line is one piece": its bytes, where it feeds
+-- 01, Console, 3: the piece that a line is, where it feeds
 unfoldable pub parsed : List ℕ → Option (List ℕ)
 parsed line = cond (feeds line) (some (pairs line)) none
 
@@ -51,7 +51,7 @@ abbrev pub bytesIn : Option (List ℕ) → List ℕ
 bytesIn none = []
 bytesIn (some bs) = bs
 
--- the character of a digit below 16, "upper case"
+-- the character of a digit below 16
 abbrev pub glyph : ℕ → ℕ
 glyph d = cond (ltb d 10) (48 + d) (55 + d)
 
@@ -59,11 +59,11 @@ glyph d = cond (ltb d 10) (48 + d) (55 + d)
 abbrev pub closedBit : Relay → ℕ
 closedBit r = cond (r .closed) 1 0
 
--- the relays as a number, "lowest bit channel 1"
+-- the relays as a number, channel 1 the lowest bit
 unfoldable pub relayBits : List Relay → ℕ
 relayBits [] = 0
 relayBits (r ∷ rs) = closedBit r + 2 * relayBits rs
 
--- "it prints answer and relays as four digits", and a newline
+-- 01, Console, 2: two digits of the answer, two of the relays, and a newline
 unfoldable pub shownOf : ℕ → ℕ → List ℕ
 shownOf answer relays = glyph (answer / 16) ∷ glyph (answer % 16) ∷ glyph (relays / 16) ∷ glyph (relays % 16) ∷ 10 ∷ []

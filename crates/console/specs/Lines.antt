@@ -1,4 +1,4 @@
--- The lines of the input, and what each of them does. Document 01, "A console program reads standard input".
+-- The lines of the input, and what each of them does: 01, Console.
 use mathlib.Core.Bool.{cond}
 use mathlib.Core.List.{List, [], _∷_, _++_}
 use mathlib.Core.Option.{Option, none, some}
@@ -19,20 +19,20 @@ unfoldable pub onFirst : ℕ → List (List ℕ) → List (List ℕ)
 onFirst b [] = (b ∷ []) ∷ []
 onFirst b (l ∷ ls) = (b ∷ l) ∷ ls
 
--- the lines of the whole input: each ends at a newline, which is not of it; the last may lack one, and then counts if it is not empty
+-- 01, Console, 1: the lines of the input: each ends at a newline, which is not of it; the last may lack one, and then counts if it is not empty
 unfoldable pub linesOf : List ℕ → List (List ℕ)
 linesOf [] = []
 linesOf (b ∷ bs) = cond (eqb b 10) ([] ∷ linesOf bs) (onFirst b (linesOf bs))
 
--- "fed to connection 0 open at rank 2"; nothing is set at power-up
+-- 01, Console, 1: connection 0 is open, at rank 2; nothing is set at power-up
 unfoldable pub started : Board
 started = connectCall 0 2 (poweredUp (record { inputs = replicate 8 blankSettings; relays = replicate 8 0 })) .did .board
 
--- the words that were lent, with nothing half read on connection 0: an opening is fresh (01, Events besides bytes, 3)
+-- the words that were lent, with nothing half read on connection 0: an opening is fresh (01, Events, 3)
 unfoldable pub startedHalves : Halves → Halves
 startedHalves hs = putHalf 0 start hs
 
--- "A line is one piece, offered once; what that call does not take is dropped"; a line that is none "feeds nothing and prints FF", 255.
+-- 01, Console, 3 and 4: a line is offered in one call, and nothing of it again; one that does not feed shows FF, 255.
 -- The reply buffer has 4,096 bytes; a row of 31 pulses is told, and none is kept, for no time passes here and none of its records is read.
 unfoldable pub offered : Option (List ℕ) → Board → Halves → List ℕ → Effect
 offered none b hs rooms = still (refused 255 b)
@@ -46,7 +46,7 @@ unfoldable pub roomsOffered : Option (List ℕ) → Board → Halves → List �
 roomsOffered none b hs rooms = rooms
 roomsOffered (some piece) b hs rooms = roomsAfter 0 piece 4096 31 b hs rooms
 
--- what a line does, and the halves and rooms after it: "a half-read message waits for the next line" in them
+-- 01, Console, 3: what a line does, and the halves and rooms after it, in which what is half read waits
 unfoldable pub lineCall : List ℕ → Board → Halves → List ℕ → Effect
 lineCall line b hs rooms = offered (parsed line) b hs rooms
 
@@ -56,11 +56,11 @@ lineHalves line b hs rooms = halvesOffered (parsed line) b hs rooms
 unfoldable pub lineRooms : List ℕ → Board → Halves → List ℕ → List ℕ
 lineRooms line b hs rooms = roomsOffered (parsed line) b hs rooms
 
--- what is printed of it
+-- 01, Console, 2: what is printed of it
 unfoldable pub shown : Effect → List ℕ
 shown e = shownOf (e .did .answer) (relayBits (relaysOf (e .did .board)))
 
--- "For each it prints": all that is printed, line by line. "No header."
+-- 01, Console, 2 and 5: all that is printed: line by line, and nothing else
 unfoldable pub printed : Board → Halves → List ℕ → List (List ℕ) → List ℕ
 printed b hs rooms [] = []
 printed b hs rooms (l ∷ ls) =

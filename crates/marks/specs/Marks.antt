@@ -1,4 +1,4 @@
--- The due marks of the connections. Document 01, "Events besides bytes".
+-- The due marks of the connections: 01, Events, 3 and 6.
 use mathlib.Core.Bool.{Bool, true, cond, _&&_}
 use mathlib.Core.List.{List}
 use Prim.Native.Nat.{ℕ}

@@ -17,11 +17,11 @@ use Rattle.pulses.specs.declared.Pulse.{Pulse}
 abbrev pub pulseOf : ℕ → ℕ → ℕ → Pulse
 pulseOf mask states ms = record { mask = mask; states = states; duration = ms }
 
--- 02, M-100, 1: action 6 closes one relay for that long: the pulse with this relay's bit, the lowest relay 1, in mask and states
+-- 02, M-100, 1: action 6: the pulse of one relay: mask and states have its bit, the lowest relay 1
 unfoldable pub relayPulse : ℕ → ℕ → Pulse
 relayPulse k ms = let bit : ℕ = cond (isChannel k) (2 ^ (k - 1)) 0 in pulseOf bit bit ms
 
--- 02, M-100, 5: the queue's records are a lent row; what stands for a record that is not there
+-- 02, M-100, 5: record i of the lent row; one that is not there reads as no pulse
 abbrev pub pulseAt : List Pulse → ℕ → Pulse
 pulseAt row i = getD row i (pulseOf 0 0 0)
 
@@ -29,17 +29,19 @@ pulseAt row i = getD row i (pulseOf 0 0 0)
 abbrev pub shortRow : ℕ → Bool
 shortRow records = ltb records 31
 
--- 02, M-100, 2: at most 31 stand, the running one included; a number above that reads as 31
+-- 02, M-100, 2: how many stand, the running one among them; a number above 31 reads as 31
 abbrev pub standing : Queue → ℕ
 standing q = min (q .standing) 31
 
+-- 02, M-100, 2: no place is free
 abbrev pub isFull : Queue → Bool
 isFull q = leb 31 (q .standing)
 
+-- 02, M-100, 2: the first of those that stand runs
 abbrev pub runs : Queue → Bool
 runs q = ltb 0 (q .standing)
 
--- 02, M-100, 2: finished places are used again: the 31 places are a ring, and this is the k-th behind the first
+-- 02, M-100, 2: so that a freed place serves anew the 31 places are a ring: this is the k-th behind the first
 abbrev pub place : Queue → ℕ → ℕ
 place q k = (q .first % 31 + k % 31) % 31
 
@@ -51,7 +53,7 @@ statesBelow (suc n) b = statesBelow n b + cond (relayAt (suc n) b .closed) (2 ^ 
 abbrev pub statesOf : Board → ℕ
 statesOf b = statesBelow 8 b
 
--- 02, M-100, 3: the masked relays take these states, which is a change of its own: the marks follow at once
+-- 02, M-100, 3: the masked relays take these states, at a beginning or an end: a change by itself, whose marks follow at once
 unfoldable pub switched : ℕ → ℕ → Board → Board
 switched mask states b = let m : Change = blockOf mask states b in marked (m .changed) (m .board)
 
@@ -88,7 +90,7 @@ popped q =
 unfoldable pub ended : Pulse → Board → Board
 ended p b = switched (p .mask) (queueOf b .remembered % 2 ^ 16) (putQueue (popped (queueOf b)) b)
 
--- 02, M-100, 2: the next, if one waits, begins at the end of the one before
+-- 02, M-100, 2: the next, if one waits, begins when the first has ended
 abbrev pub followed : Pulse → Board → Board
 followed next b = cond (runs (queueOf b)) (begun next b) b
 
@@ -99,6 +101,7 @@ turned p next b = followed next (ended p b)
 abbrev pub lasts : Queue → ℕ
 lasts q = max 1 (q .left)
 
+-- a pulse runs, and ends within d ms
 abbrev pub endsWithin : ℕ → Queue → Bool
 endsWithin d q = runs q && leb (lasts q) d
 
@@ -106,13 +109,13 @@ endsWithin d q = runs q && leb (lasts q) d
 unfoldable pub waited : ℕ → Board → Board
 waited d b = cond (runs (queueOf b)) (leftSet (queueOf b .left - d) (passed d b)) (passed d b)
 
--- 02, M-100, 4: one ms: clock and usage grow first; then the running pulse may end, and the next begin
+-- 02, M-100, 4: one ms: first it passes for clock and usage; then the running pulse may end, and the next begin
 unfoldable pub tick : List Pulse → Board → Board
 tick row b =
     let q : Queue = queueOf b in
     cond (endsWithin 1 q) (turned (pulseAt row (place q 0)) (pulseAt row (place q 1)) (passed 1 b)) (waited 1 b)
 
--- 02, M-100, 4: d ms equal d times 1 ms
+-- 02, M-100, 4: d ms, one by one
 unfoldable pub elapsed : List Pulse → ℕ → Board → Board
 elapsed row d b = times d (tick row) b
 
@@ -129,7 +132,7 @@ joined p q =
       duration = p .duration;
     }
 
--- 02, M-100, 2: it begins at once when none runs
+-- 02, M-100, 2: a request is accepted: it begins in its own message where no other runs
 unfoldable pub accepted : Pulse → Board → Board
 accepted p b = let after : Board = putQueue (joined p (queueOf b)) b in cond (runs (queueOf b)) after (begun p after)
 
@@ -141,8 +144,7 @@ newest b = pulseOf (queueOf b .mask % 2 ^ 16) (queueOf b .states % 2 ^ 16) (queu
 unfoldable pub seatOf : ℕ → Queue → Queue → ℕ
 seatOf records before after = cond (ltb (before .standing) (after .standing)) (place after (after .standing - 1)) records
 
--- 02, M-100, 5: the row of pulses after a message: the request that it added to the queue, if one, stands behind the last; every other record
--- stays
+-- 02, M-100, 5: the row after a message: the request that it added to the queue, if one, stands behind the last; every other record stays
 unfoldable pub rowAfter : Board → Board → List Pulse → List Pulse
 rowAfter b b′ row =
     let after : Queue = queueOf b′ in

@@ -82,7 +82,7 @@ fn join(q: Queue, p: Pulse) -> Queue
     }
 }
 
-// A pulse is asked for: 14 where 31 stand. It begins at once when none runs.
+// A pulse is asked for: 14 where 31 stand. Where no other runs it begins here.
 pub fn push(board: &mut [[u64; 8]; ROWS], p: Pulse) -> u8
     ensures { λ r. ⌜ now (board .exit) ≡ cond (isFull (queueOf (now (board .entry)))) (now (board .entry)) (accepted p (now (board .entry))) ⌝ }
     ensures { λ r. ⌜ r ≡ cond (isFull (queueOf (now (board .entry)))) 14 1 ⌝ }

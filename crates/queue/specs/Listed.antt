@@ -37,7 +37,7 @@ unfoldable pub started : Board → List Pulse → Listed
 started b [] = listOf b []
 started b (p ∷ ps) = listOf (begun p b) (p ∷ ps)
 
--- 02, M-100, 4: one ms: clock and usage grow first; then the first, where it has no more than this ms, ends and is taken off
+-- 02, M-100, 4: one ms: first it passes for clock and usage; then the first, where it has no more than this ms, ends and is taken off
 unfoldable pub elapsing : Board → List Pulse → Listed
 elapsing b [] = listOf (passed 1 b) []
 elapsing b (p ∷ ps) =

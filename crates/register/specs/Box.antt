@@ -19,7 +19,7 @@ use Rattle.board.specs.Calls.{Effect, doneOf, levelCall, passCall, connectCall,
 use Rattle.demand.specs.Plain.{Serving}
 use Rattle.demand.specs.Demand.{Said, waits, refused, did, Call, bytes, other, Answer, answer, Machine, Trace, View, final, trace, begins}
 
--- "Events besides bytes"; a collection lends a reply buffer of so many bytes
+-- 01, Events, 1 to 5; a collection lends a reply buffer of so many bytes
 pub data Event : Type 0 where
   level : ℕ → ℕ → Event
   pass : ℕ → Event
@@ -38,7 +38,7 @@ reply n bs = record { number = n; sent = bs }
 abbrev pub replyOf : Did → Reply
 replyOf d = reply (d .answer) (d .reply)
 
--- 01, Answer numbers, under the table, and 02, M-100, 7: numbers 3 to 14 write no reply
+-- 01, Answer numbers, 4, and 02, M-100, 7: a refusal, which has no reply
 abbrev pub refusing : ℕ → Reply
 refusing n = reply n []
 
@@ -50,7 +50,7 @@ pub record Tables : Type 0 where
 abbrev pub tables : Board → List Pulse → Tables
 tables b row = record { board = b; row = row }
 
--- 3 "connection not 0 to 3, or not open", then 4 "reply buffer under 4,096", room is its length; 02, M-100, 5: 4 also for a row under 31
+-- 01, Answer numbers, lines 3 and 4: what refuses a piece, room the reply buffer's length; 02, M-100, 5: 4 also for a row under 31
 abbrev pub refusalOf : Tables → ℕ → ℕ → Option Reply
 refusalOf t c room =
     cond (isOpen c (t .board)) (cond (tooShort room || shortRow (length (t .row))) (some (refusing 4)) none) (some (refusing 3))
@@ -63,7 +63,7 @@ happens (connect c rank) t = connected c rank (t .board)
 happens (close c) t = closed c (t .board)
 happens (collect c room) t = collected c room (t .board)
 
--- "Collect: if Monitor is due, write one Monitor message": the other events' replies are for no connection
+-- 01, Events, 5: a collection's reply is for its connection; the other events' are for none
 abbrev pub collector : Event → Option ℕ
 collector (level k v) = none
 collector (pass d) = none
@@ -116,11 +116,11 @@ eventCall (connect c rank) x = connectCall c rank (x .board)
 eventCall (close c) x = closeCall c (x .board)
 eventCall (collect c room) x = collectCall c room (x .board)
 
--- 3 "connection not 0 to 3, or not open", 4 "reply buffer under 4,096" or a row under 31: the numbers that refuse a piece before any byte
+-- 01, Answer numbers, lines 3 and 4: the numbers that refuse a piece before any byte
 abbrev pub beforeBytes : ℕ → Bool
 beforeBytes n = eqb n 3 || eqb n 4
 
--- what the answer to a piece says: 0 "piece used up, nothing ended"; 3 and 4 refuse the call; every other number answers a message
+-- 01, Answer numbers, line 0: what the answer to a piece says: with 0 nothing ended; 3 and 4 refuse the call; every other number answers a message
 abbrev pub saying : Reply → Said Reply
 saying r = cond (eqb (r .number) 0) waits (cond (beforeBytes (r .number)) (refused r) (did r))
 

@@ -17,17 +17,16 @@ use Rattle.demand.specs.Demand.{Call, bytes, other}
 use Rattle.register.specs.Box.{Event, level, pass, connect, close, collect, Held, served}
 use Rattle.marks.specs.Marks.{withDue}
 
--- "7 Set clock": a content of this type, whole or not
+-- 01, Messages, 7, 1: a content of this type, whole or not
 abbrev pub TypeSeven : List ℕ → Type 0
 TypeSeven content = numberAt content 0 1 ≡ 7
 
--- from the one board to the other the clock may have changed, and nothing else: no other row, and no other word of the clock's own
+-- 01, Mistakes, 3: from the one board to the other the clock may have changed, and nothing else: no other row, and no other word of the clock's own
 pub record ButClock (before after : Board) : Type 0 where
   pub rows : (n : ℕ) → eqb n clockRow ≡ false → rowAt n after ≡ rowAt n before
   pub words : (j : ℕ) → eqb j 0 ≡ false → word j (rowAt clockRow after) ≡ word j (rowAt clockRow before)
 
--- 01, Answer numbers, under the table, and 02, M-100, 7: numbers 3 to 14 write no reply, and every word of the board is as it was; so every
--- byte of a reply buffer stays
+-- 01, Answer numbers, 4 and 6, and 02, M-100, 7: what a refusal leaves: every word of the board, no reply, and so every byte of a reply buffer
 pub record Untouched (before : Board) (e : Effect) : Type 0 where
   pub board : e .did .board ≡ before
   pub silent : e .did .reply ≡ []
@@ -45,7 +44,7 @@ abbrev pub callOn : ℕ → Call served → Bool
 callOn d (bytes c room piece) = eqb d c
 callOn d (other e) = eventOn d e
 
--- connection d has what it had: its half-read message, its room, and its line but for the due mark
+-- 01, Mistakes, 1: connection d has what it had: its half-read message, its room, and its line but for the due mark
 pub record Kept (d : ℕ) (before after : Held) : Type 0 where
   pub half : halfAt d (after .halves) ≡ halfAt d (before .halves)
   pub room : roomAt d (after .rooms) ≡ roomAt d (before .rooms)

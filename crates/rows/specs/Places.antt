@@ -1,4 +1,4 @@
--- Which row of the board stands for what. Document 01, "What the box holds".
+-- Which row of the board stands for what: 01, What the box holds.
 use mathlib.Core.Bool.{Bool, cond, _&&_}
 use mathlib.Core.List.{List, [], _∷_}
 use Prim.Native.Nat.{ℕ, zero, suc, _+_, _-_}
@@ -81,7 +81,7 @@ putLine c l b = cond (isConnection c) (set b (linePlace c) (lineWords l)) b
 abbrev pub clockOf : Board → ℕ
 clockOf b = word 0 (rowAt clockRow b)
 
--- 01, Messages offered, 7: the clock becomes that number; no other word does
+-- 01, Messages, 7, 1: the clock becomes that number; no other word does
 unfoldable pub clockSet : ℕ → Board → Board
 clockSet v b = set b clockRow (set (rowAt clockRow b) 0 v)
 

@@ -419,7 +419,7 @@ fn collecting(board: &mut [[u64; 8]; ROWS], halves: &mut [[u64; 3]; 4], rooms: &
     collect(b"collect 0 after that", board, 0);
 }
 
-// A message half read at a closing is none.
+// What is half read when a connection is closed is gone.
 fn closing(board: &mut [[u64; 8]; ROWS], halves: &mut [[u64; 3]; 4], rooms: &mut [u8; 4096]) {
     piece(
         b"1 half a message",
@@ -435,7 +435,7 @@ fn closing(board: &mut [[u64; 8]; ROWS], halves: &mut [[u64; 3]; 4], rooms: &mut
     piece(b"1 the other half", board, halves, rooms, 1, b"\x00\x02");
 }
 
-// 01's edges: N = 1,024 is judged, 1,025 gives 6; a buffer of 4,095 gives 4.
+// 01, Edges, 11: contents of 1,024 and 1,025 bytes, and a reply buffer that is one byte short.
 fn edges(board: &mut [[u64; 8]; ROWS], halves: &mut [[u64; 3]; 4], rooms: &mut [u8; 4096]) {
     let mut held = [0u8; 1029];
     held[0] = 1;
