@@ -19,3 +19,5 @@ OUT_OF_RANGE = 11       # line 11: a number in a message or a level event that s
 ALREADY_OPEN = 12       # line 12: an opening of a connection that is not shut
 BAD_RANK = 13           # line 13: an opening at a rank that there is not
 QUEUE_FULL = 14         # 02, M-100, 7: a pulse, while 31 stand
+
+BY_NAME = {name: number for name, number in list(globals().items()) if name.isupper()}
