@@ -514,8 +514,8 @@ class Box:
         return devices[channel - 1]
 
     def channel_pulse(self, fields):
-        """Action 6, 001: channel (2), duration (4).  M-100, 1: it closes the relay for that long, which is the
-        pulse with the relay alone in its mask, and closed.
+        """M-100, 1: action 6, 001: channel (2), duration (4): the pulse with that relay alone in its mask, and
+        closed.
         """
         channel, duration = fields.number(2), fields.number(4)
         fields.end()

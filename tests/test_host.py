@@ -435,7 +435,7 @@ class Pulses(Case):
             "the pulse of a block of relays, mask C0 state 00, 60000 ms, has begun; relay 1 is open now"])
 
     def test_full_queue(self):
-        """31 stand at most: the next is refused and told why, and finished places are used again."""
+        """31 stand at most: the next is refused and told why; with each end there is room for one more."""
         with Boxd("--quiet", trace=True) as host, Client(host.port) as client, Client(host.port) as other:
             client.send(pulse(1, 1500) + pulse(2, 1) * 30 + pulse(3, 1) + HOW_MANY)
             self.assertEqual(client.next_of(254)[4], 31)

@@ -432,7 +432,7 @@ class FrameRules(Case):
             self.assertEqual(self.box.bytes_(1, 4096, bytes([byte, 6])), (answer, 2 if byte == 1 else 1, b""))
             self.box.close(1)
 
-    def test_inside_a_frame_no_byte_has_such_a_meaning(self):
+    def test_nothing_begins_inside_a_frame(self):
         """Frame, 8; Mistakes, 4."""
         for byte in bytes.fromhex("010004FFFF0A0A06"):
             self.assertEqual(self.box.bytes_(0, 4096, bytes([byte])), (WAITING, 1, b""))
