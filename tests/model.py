@@ -578,8 +578,8 @@ class Box:
         return before != state
 
     def read_devices(self, conn, fields):
-        """Messages, 21, 1 and 2: count (2) and IDs (8); type 22 has as many entries, one for each ID in turn,
-        a block with its length (2) behind it.
+        """Messages, 21, 1 and 2: count (2) and IDs (8); type 22 has the count too, and of each ID in turn
+        itself, how long its block is (2), and the block.
         """
         count = fields.number(2)
         ids = [fields.number(8) for _ in range(count)]
