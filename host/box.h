@@ -49,8 +49,8 @@ came box_bytes(box *b, uint8_t c, const uint8_t *piece, size_t n);
 /* Whether Monitor is due on connection c. */
 bool box_due(const box *b, uint8_t c);
 
-/* The content of the message that the last box_bytes on connection c ended with an answer of 1 or 7 to 11: a whole frame of at most 1,024
- * content bytes. Of such a message 5 + N bytes have been read, and its content stands in the connection's room until that connection's
+/* The content of the message that the last box_bytes on connection c ended, where it was served or its content refused: a whole frame, not
+ * WELLACORN_TOO_LONG. Of such a message 5 + N bytes have been read, and its content stands in the connection's room until that connection's
  * next call. Gives N. */
 size_t box_content(const box *b, uint8_t c, const came *it, const uint8_t **content);
 

@@ -1,4 +1,4 @@
-/* The same box in plain C. Sentences in quotes are those of the rules. */
+/* The same box in plain C. The rules, documents 01 and 02, are named by their place: section and sentence, of a message also its type. */
 #include "peer.h"
 
 #include <string.h>
@@ -7,7 +7,7 @@ enum {
     START = 0x01,
     ACK = 0x06,
     HEADER = 5,             /* start byte, length, checksum */
-    UNCHECKED = 0xFFFF      /* "A sent checksum of 0xFFFF passes unchecked." */
+    UNCHECKED = 0xFFFF      /* 01, Frame, 5: the checksum that stands for none */
 };
 
 enum type {
@@ -128,8 +128,7 @@ static size_t seal(uint8_t *reply, size_t n)
 
 /* ---- Tables */
 
-/* "When the level of an input or the state of a relay really changes, Monitor becomes due on each open connection of rank 1 or 2 that has
- * it on, the sender included." */
+/* 01, Events, 6: after a real change, to every open connection that has a rank above 0 and Monitor on. */
 static void mark_due(peer_box *box)
 {
     for (int c = 0; c < WELLACORN_CONNECTIONS; c++) {
@@ -146,7 +145,7 @@ static bool put_relay(peer_relay *relay, bool closed)
     return changed;
 }
 
-/* "Only masked relays take the state." */
+/* 01, Messages, 10, 3: a relay that is not masked stays. */
 static bool change_block(peer_relay *relays, unsigned mask, unsigned state)
 {
     bool changed = false;
@@ -179,7 +178,7 @@ static uint8_t usage_alarm(uint64_t usage, uint64_t setpoint)
     return (setpoint != 0) & (usage >= setpoint);
 }
 
-/* ---- Pulses. "Each beginning and end is a change of its own": both say whether a relay really changed. */
+/* ---- Pulses. 02, M-100, 3: beginning and end are two changes, so both say whether a relay really changed. */
 
 static bool begin_pulse(peer_box *box, const peer_pulse *pulse)
 {
@@ -213,7 +212,7 @@ static bool end_pulse(peer_box *box, const peer_pulse *row)
 
 enum { DEVICES = 2 * WELLACORN_CHANNELS, UNKNOWN = -1 };
 
-/* din1 to din8 are 0x01FF to 0x08FF, rout1 to rout8 are 0x0101FF to 0x0108FF. */
+/* 01, Messages, IDs: from the low end on FF, the channel, and 1 for a relay. */
 static uint64_t id_of(unsigned device)
 {
     unsigned k = device < WELLACORN_CHANNELS ? 0x01 + device : 0x0101 + device - WELLACORN_CHANNELS;
@@ -281,7 +280,7 @@ static uint8_t *put_usages(uint8_t *p, const peer_tables *tables)
     return put64(p, tables->clock);
 }
 
-/* ID, block length, block. "An unknown ID has length 0." */
+/* 01, Messages, 21, 2 and 3: ID, block length, block; of an unknown ID no block. */
 static uint8_t *put_device(uint8_t *p, const peer_tables *tables, uint64_t id)
 {
     int device = device_of(id);
@@ -311,7 +310,7 @@ static uint8_t request(peer_box *box, peer_line *line, const uint8_t *content, s
     if (n < 3) {
         return WELLACORN_BAD_LENGTH;
     }
-    /* "In types 5 and 10 the request or action is judged (11) as soon as the content holds it, before the length." */
+    /* 01, Answer numbers, 2: a request that has come is judged before the length, and so is an action. */
     unsigned asked = get16(content + 1);
     if (asked > 5 || asked == 3) {
         return WELLACORN_OUT_OF_RANGE;
@@ -463,7 +462,7 @@ static uint8_t read_devices(const peer_box *box, const uint8_t *content, size_t 
     return WELLACORN_SERVED;
 }
 
-/* "With 1 and 2 together the written count stands." Says whether the entry was written. */
+/* 01, Messages, 23, 4: a count is cleared before one is written. Says whether the entry was written. */
 static bool write_input(peer_input *in, const uint8_t *block, size_t length)
 {
     enum { RESET_COUNT = 1, WRITE_COUNT = 2, RESET_USAGE = 4, ALL = 7 };
@@ -512,7 +511,7 @@ static bool write_relay(peer_relay *relay, const uint8_t *block, size_t length, 
 
 enum { ENTRY = 10 };    /* an entry before its block: ID and block length */
 
-/* "The whole message must fit exactly, else 10 and nothing is written." */
+/* 01, Messages, 23, 2: judged before anything is written. */
 static bool entries_fit(const uint8_t *content, size_t n)
 {
     if (n < 3) {
@@ -538,7 +537,7 @@ static uint8_t write_devices(peer_box *box, const uint8_t *content, size_t n, ui
     if (!entries_fit(content, n)) {
         return WELLACORN_BAD_LENGTH;
     }
-    /* "The entries are each a change of their own, so close and then open makes Monitor due": a change is never taken back. */
+    /* 01, Events, 8: a change in one entry is not taken back by the next. */
     bool changed = false;
     uint16_t written = 0;
     for (size_t at = 3; at < n;) {

@@ -73,7 +73,7 @@ typedef struct {
     size_t len;             /* and the reply's length */
 } peer_box;
 
-/* Each answers as the library's function of that name. A row of `records` pulses is lent as there, under WELLACORN_PULSES the answer is 4. */
+/* Each answers as the library's function of that name. A row of `records` pulses is lent as there, under WELLACORN_PULSES it is a WELLACORN_SHORT_BUFFER. */
 void peer_power_up(peer_box *box, const wellacorn_settings *settings);
 uint8_t peer_level(peer_box *box, uint8_t k, uint8_t v);
 uint8_t peer_pass(peer_box *box, const peer_pulse *row, size_t records, uint32_t d);

@@ -245,7 +245,7 @@ static bool power(const word *words, size_t n)
         }
     }
     engine_power_up(&box, &s);
-    print_char('1');
+    print_number(WELLACORN_SERVED);
     return true;
 }
 

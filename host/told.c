@@ -208,7 +208,7 @@ static void told_message(const box *b, uint8_t c, const came *it)
         add_served(&w, b, content);
         add_switched(&w, b, it->switched);
     } else if (it->done.answer == WELLACORN_TOO_LONG) {
-        add(&w, "sent a message of %zu bytes, swallowed (6): the longest is 1,024", it->read - 5);
+        add(&w, "sent a message of %zu bytes, swallowed (%d): the longest is 1,024", it->read - 5, WELLACORN_TOO_LONG);
     } else {
         add_refused(&w, content, n, it->done.answer);
     }
@@ -253,10 +253,10 @@ void told_time(const box *b, const passed *it)
 void told_rest(heard *h, uint8_t c)
 {
     if (h->strays > 0) {
-        say("connection %u sent %lu stray byte%s, ignored (5): no message begins so", c, h->strays, h->strays == 1 ? "" : "s");
+        say("connection %u sent %lu stray byte%s, ignored (%d): no message begins so", c, h->strays, h->strays == 1 ? "" : "s", WELLACORN_STRAY);
     }
     if (h->keep_alives > 0) {
-        say("connection %u is there still: %lu keep-alive%s (2)", c, h->keep_alives, h->keep_alives == 1 ? "" : "s");
+        say("connection %u is there still: %lu keep-alive%s (%d)", c, h->keep_alives, h->keep_alives == 1 ? "" : "s", WELLACORN_KEEP_ALIVE);
     }
     h->strays = h->keep_alives = 0;
 }

@@ -42,26 +42,27 @@ enum {
     WELLACORN_LONGEST_REPLY = 3437  /* the longest reply, its header included */
 };
 
-/* The answer numbers. They are judged in the order 3, 12, 13, 4, then 5 or 6, 7, 8, 9, 10, 11, 14, except that in the message types 5 and 10
- * the request or action is judged (11) as soon as the content holds it, before the length (10). Numbers 3 to 14 write no reply.
- * An answer of 3, 4, 12 or 13 takes no bytes and changes nothing; one of 6 to 11 or 14 to a message takes the bytes through its end and
- * clears the half-read message, and changes nothing else. */
+/* The answer numbers. From NO_CONNECTION on they are refusals, which have no reply. A call is refused by the first that applies of
+ * NO_CONNECTION, ALREADY_OPEN, BAD_RANK and SHORT_BUFFER, and then takes no bytes and changes nothing. A whole message is refused by the first
+ * of TOO_LONG to OUT_OF_RANGE, in their order, and QUEUE_FULL: its bytes are taken through its end, nothing of it stays half read, and nothing
+ * else changes. Only in the message types 5 and 10 the request or action, where it has come, is judged (OUT_OF_RANGE) before the length
+ * (BAD_LENGTH). */
 enum {
-    WELLACORN_WAITING = 0,          /* the piece is used up and nothing ended, or nothing is due */
-    WELLACORN_SERVED = 1,           /* served; the reply's length may be 0 */
-    WELLACORN_KEEP_ALIVE = 2,       /* a keep-alive byte: 1 taken, nothing changed */
-    WELLACORN_NO_CONNECTION = 3,    /* connection not 0 to 3, or not open (an opening is judged on the number alone) */
-    WELLACORN_SHORT_BUFFER = 4,     /* reply buffer under 4,096, or a row under 31 records */
-    WELLACORN_STRAY = 5,            /* a stray byte: 1 taken, nothing changed */
-    WELLACORN_TOO_LONG = 6,         /* N above 1,024 */
-    WELLACORN_BAD_CHECKSUM = 7,     /* the checksum differs and is not 0xFFFF */
-    WELLACORN_NOT_OFFERED = 8,      /* N is 0, or the type is not offered */
-    WELLACORN_LOW_RANK = 9,         /* rank too low */
-    WELLACORN_BAD_LENGTH = 10,      /* the content does not have the layout's length */
-    WELLACORN_OUT_OF_RANGE = 11,    /* action, request, channel, input, level or flags out of range, or a pulse of 0 ms */
-    WELLACORN_ALREADY_OPEN = 12,    /* opening one that is open */
-    WELLACORN_BAD_RANK = 13,        /* rank above 2 */
-    WELLACORN_QUEUE_FULL = 14       /* a pulse is asked for while 31 stand in the queue */
+    WELLACORN_WAITING = 0,          /* the piece has ended and no message with it; of a collection: Monitor is not due */
+    WELLACORN_SERVED = 1,           /* done, with a reply or without */
+    WELLACORN_KEEP_ALIVE = 2,       /* the byte that only says that the sender is there: 1 taken, nothing changed */
+    WELLACORN_NO_CONNECTION = 3,    /* no connection has this number, or it is shut; to an opening only the former */
+    WELLACORN_SHORT_BUFFER = 4,     /* fewer bytes than WELLACORN_REPLY are lent for the reply, or fewer records than WELLACORN_PULSES */
+    WELLACORN_STRAY = 5,            /* a byte with which no message begins: 1 taken, nothing changed */
+    WELLACORN_TOO_LONG = 6,         /* a content of more bytes than WELLACORN_CONTENT */
+    WELLACORN_BAD_CHECKSUM = 7,     /* neither the content's checksum nor 0xFFFF */
+    WELLACORN_NOT_OFFERED = 8,      /* no content, or a type that the box does not serve */
+    WELLACORN_LOW_RANK = 9,         /* the type needs a higher rank */
+    WELLACORN_BAD_LENGTH = 10,      /* too few or too many bytes for the type's layout */
+    WELLACORN_OUT_OF_RANGE = 11,    /* a number in a message or of a level that stands for nothing, or a pulse of 0 ms */
+    WELLACORN_ALREADY_OPEN = 12,    /* an opening of a connection that is not shut */
+    WELLACORN_BAD_RANK = 13,        /* an opening at a rank that there is not */
+    WELLACORN_QUEUE_FULL = 14       /* a pulse is asked for while WELLACORN_PULSES stand */
 };
 
 /* ---- What the box holds.
@@ -72,25 +73,25 @@ enum {
 
 typedef struct {
     uint64_t level;             /* on or off */
-    uint64_t alarm;             /* the alarm switch: Alarm State is 1 when it is set and the input is on */
-    uint64_t count;             /* rises, off to on; it stays at 4294967295 once there */
-    uint64_t setpoint_one;      /* count alarm 1 is 1 when the count exceeds it; a setpoint of 0 means no alarm */
-    uint64_t setpoint_two;      /* count alarm 2, the same */
-    uint64_t usage;             /* how long the input has been on; it stops at its largest number */
-    uint64_t usage_setpoint;    /* the usage alarm is 1 when usage is at or above it; 0 means no alarm */
+    uint64_t alarm;             /* the alarm switch: where it is set, the input's Alarm State is its level */
+    uint64_t count;             /* rises, off to on; 4294967295 at most */
+    uint64_t setpoint_one;      /* of count alarm 1: on above it; where it is 0, never */
+    uint64_t setpoint_two;      /* of count alarm 2, the same */
+    uint64_t usage;             /* how long the input has been on; at its largest number it stands still */
+    uint64_t usage_setpoint;    /* of the usage alarm: on from it on; where it is 0, never */
     uint64_t unused;
 } wellacorn_input;
 
 typedef struct {
     uint64_t closed;            /* closed or open */
     uint64_t unused[4];
-    uint64_t usage;             /* how long the relay has been closed; it stops at its largest number */
+    uint64_t usage;             /* how long the relay has been closed; at its largest number it stands still */
     uint64_t usage_setpoint;    /* as an input's */
     uint64_t unused_last;
 } wellacorn_relay;
 
 typedef struct {
-    uint64_t time;              /* ms since 1 January 1970 GMT; it stops at its largest number */
+    uint64_t time;              /* ms since 1 January 1970 GMT; at its largest number it stands still */
     uint64_t unused[7];
 } wellacorn_clock;
 
@@ -162,43 +163,45 @@ typedef struct {
 
 /* ---- The calls */
 
-/* The box at power-up: all numbers 0, all relays open, all connections shut, setpoints and alarm switches as the host sets them. */
+/* The box at power-up: everything is 0, open or shut but for the setpoints and alarm switches, which the host gives. */
 void wellacorn_power_up(wellacorn_board *board, wellacorn_settings s);
 
-/* Level of input k (1 to 8): v is 0 off, 1 on. Off to on adds one to the count. The same level again changes nothing. A real change makes
- * Monitor due on each open connection of rank 1 or 2 that has it on. Answers 1, or 11 for a bad input or level. */
+/* Input k (1 to 8) is on (v is 1) or off (0). A rise counts one; the level that it has already does nothing. A real change makes Monitor due
+ * to every open connection that has a rank above 0 and Monitor on. Answers SERVED, or OUT_OF_RANGE for another input or level. */
 wellacorn_done wellacorn_level(wellacorn_board *board, uint8_t k, uint8_t v);
 
-/* d ms have passed: the clock, the usage of each input that is on and of each closed relay grow by d. In each ms they grow first; then the
+/* d ms have passed, for the clock and for the usages of inputs that are on and relays that are closed. In each ms they grow first; then the
  * running pulse ends if its time is over, and the next begins in that same ms. Each end and each beginning that really changes a relay makes
- * Monitor due. The row is read only. Answers 1, or 4 for a row under 31 records.
+ * Monitor due. The row is read only. Answers SERVED, or SHORT_BUFFER for a row under WELLACORN_PULSES records.
  *
  * A relay that a pulse has closed is closed until this call says that its time is over: `queue.left` of the board says when that is. */
 wellacorn_done wellacorn_pass(wellacorn_board *board, const wellacorn_pulse *row, size_t records, uint32_t d);
 
-/* Opens connection c at a rank: fresh, at a message start, Monitor on, due if rank is 1 or 2. Answers 1, or 3, 12 or 13. */
+/* Opens connection c at a rank: at a message start, with Monitor on, and due at rank 1 or 2. Answers SERVED, or NO_CONNECTION, ALREADY_OPEN
+ * or BAD_RANK. */
 wellacorn_done wellacorn_connect(wellacorn_board *board, wellacorn_half halves[WELLACORN_CONNECTIONS], uint8_t c, uint8_t rank);
 
-/* Closes connection c: its half-read message is dropped, and everything of it is zero. Answers 1, or 3. */
+/* Closes connection c: half a message is forgotten, and everything of it is zero. Answers SERVED, or NO_CONNECTION. */
 wellacorn_done wellacorn_close(wellacorn_board *board, wellacorn_half halves[WELLACORN_CONNECTIONS], uint8_t c);
 
-/* Bytes of connection c. They are taken one by one until a message ends or the piece does: `taken` is through the byte that ended it, or
- * the whole piece. A message that ends is served or refused, and what follows it in the piece is to be offered again. A reply is one whole
- * frame of `len` bytes at the start of the reply buffer; the bytes after it stay, and without a reply all stay.
+/* Bytes of connection c. Up to the end of a message they are taken, or all of them where none ends: `taken` says how many. A message that
+ * ends is served or refused, and what follows it in the piece is to be offered again. A reply is one whole frame of `len` bytes at the start
+ * of the reply buffer; the bytes behind it stay, and without a reply all stay.
  *
  *   rooms      1,024 content bytes for each connection, at 1,024 x c. A call writes to those of its own connection alone.
- *   row        `records` records, at least 31 or the answer is 4. A pulse that is accepted is written to one of the first 31; no other record
- *              is ever written to. Not null, not even for a length of 0.
- *   piece      piece_len bytes, read only. Not null, not even for an empty piece, which answers 0 (if neither 3 nor 4 applies).
- *   reply      reply_len bytes, at least 4,096 or the answer is 4. Not null, not even for a length of 0.
+ *   row        `records` records, at least WELLACORN_PULSES or the answer is SHORT_BUFFER. A pulse that is accepted is written to one of the
+ *              first 31; no other record is ever written to. Not null, not even for a length of 0.
+ *   piece      piece_len bytes, read only. Not null, not even for an empty piece, which is judged as any and else answers WAITING.
+ *   reply      reply_len bytes, at least WELLACORN_REPLY or the answer is SHORT_BUFFER. Not null, not even for a length of 0.
  *
- * Answers 0 to 11, or 14. */
+ * Answers every number but ALREADY_OPEN and BAD_RANK. */
 wellacorn_done wellacorn_bytes(wellacorn_board *board, wellacorn_half halves[WELLACORN_CONNECTIONS], uint8_t rooms[WELLACORN_ROOMS],
                                wellacorn_pulse *row, size_t records, uint8_t c, const uint8_t *piece, size_t piece_len, uint8_t *reply,
                                size_t reply_len);
 
-/* Collects on connection c: if Monitor is due, writes one Monitor message, with the state now, and clears the mark: 1. If not: 0. Several
- * changes before one collection give one message. The reply buffer is as in wellacorn_bytes. Answers 0, 1, 3 or 4. */
+/* Collects on connection c: a Monitor message of the state now, if one is due, which it then is no longer: SERVED. If not: WAITING. However
+ * much has changed since the last one, it is one message. The reply buffer is as in wellacorn_bytes. Answers also NO_CONNECTION or
+ * SHORT_BUFFER. */
 wellacorn_done wellacorn_collect(wellacorn_board *board, uint8_t c, uint8_t *reply, size_t reply_len);
 
 /* ---- The box in one piece: all that is lent, and the same calls on it. What a later version lends besides is added here, and a host that

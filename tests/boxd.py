@@ -12,7 +12,8 @@ import tempfile
 import threading
 import time
 
-from model import Box, SERVED, NOT_OFFERED, crc16, field, number
+from answers import NOT_OFFERED, OUT_OF_RANGE, SERVED
+from model import Box, crc16, field, number
 
 ROOT = os.path.dirname(os.path.dirname(os.path.abspath(__file__)))
 PATIENCE = 60.0                         # s; only a fault waits so long
@@ -39,6 +40,11 @@ def pulse(channel, ms):
 def block_pulse(mask, states, ms):
     """Action 7."""
     return frame(b"\x0A\x07" + bytes([mask, states]) + field(ms, 4))
+
+
+def refused(answer):
+    """A pattern: how the host tells a refusal."""
+    return rf"refused \({answer}\)"
 
 
 CLOCK = frame(b"\x05\x00\x00")
@@ -300,7 +306,7 @@ class Played:
             self.passed += int(words[0]) if name == "pass" else 0
             if name == "level" and words[1] == "1":
                 self.rises.setdefault(int(words[0]), self.passed)
-            assert self.box.line(" ".join((name,) + words)) in ("1", "11"), (name, words)
+            assert self.box.line(" ".join((name,) + words)) in (str(SERVED), str(OUT_OF_RANGE)), (name, words)
 
     def bytes(self, c, piece):
         joined = bytes(self.box.connections[c].joined) + piece

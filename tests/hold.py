@@ -15,9 +15,10 @@ import time
 from collections import Counter
 
 import traces
+from answers import BY_NAME
 from model import Box, field, number
 
-ANSWERS = range(15)
+ANSWERS = sorted(BY_NAME.values())
 
 
 # ---------------------------------------------------------------------------------------------

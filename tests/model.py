@@ -2,8 +2,12 @@
 """The box of 01-scope.md, with request M-100 of 02, as a plain machine over joined bytes.
 
 This is the judge a proved implementation is held to, so it is written for a reader: the rules in
-01's order and words, one short function each.  Sentences of 01 stand in quotes; what is taken from
-M-100 says so.  It shares nothing with the implementation.
+01's order, one short function each.  It shares nothing with the implementation.
+
+A sentence of 01 is named by its place and said in our own words: the section, then the sentence's
+number in it, a bullet counting as one.  Answer numbers, line 5, is a line of the table; Answer numbers,
+5, the fifth sentence under it.  Messages, 21, 3 is the third sentence on type 21; Messages, 1 and 2
+stand before the types.  M-100, 4 is the fourth sentence of that request.
 
 Per connection the bytes taken since its opening are joined.  A whole message is cut off the front
 and served singly, so that at any time only the unfinished message is left of the joined bytes.
@@ -14,33 +18,19 @@ and served singly, so that at any time only the unfinished message is left of th
 import re
 import sys
 
+from answers import (ALREADY_OPEN, BAD_CHECKSUM, BAD_LENGTH, BAD_RANK, KEEP_ALIVE, LOW_RANK, NO_CONNECTION, NOT_OFFERED,
+                     OUT_OF_RANGE, QUEUE_FULL, SERVED, SHORT_BUFFER, STRAY, TOO_LONG, WAITING)
+
 TOP32 = 4294967295                      # largest count, largest d
 TOP64 = 18446744073709551615            # largest clock, largest usage
 
 VERSION = b"jr310 3.10.0001"
 
-# "Answer numbers", 01's table.
-NOTHING_ENDED = 0                       # piece used up, nothing ended; or nothing due
-SERVED = 1                              # served; reply length may be 0
-KEEP_ALIVE = 2                          # keep-alive byte
-NO_CONNECTION = 3                       # connection not 0 to 3, or not open
-SHORT_BUFFER = 4                        # reply buffer under 4,096; M-100: lent row under 31
-STRAY = 5                               # stray byte
-TOO_LONG = 6                            # N above 1,024
-BAD_CHECKSUM = 7                        # checksum differs and is not 0xFFFF
-NOT_OFFERED = 8                         # N is 0, or type not offered
-LOW_RANK = 9                            # rank too low
-BAD_LENGTH = 10                         # content does not have the layout's length
-OUT_OF_RANGE = 11                       # action, request, channel, input, level or flags out of range
-ALREADY_OPEN = 12                       # opening one that is open
-BAD_RANK = 13                           # rank above 2
-FULL_QUEUE = 14                         # M-100: 31 pulses stand in the queue
-
-PULSES = 31                             # M-100: pulses that stand at most, and the least row that is lent for them
+PULSES = 31                             # M-100, 2 and 5: pulses that stand at most, and the least row that is lent for them
 
 
 class Refused(Exception):
-    """A message refused with a number from 8 to 11, or 14.  Raised before anything is changed."""
+    """A message refused by its content: from its type on, up to a full queue.  Raised before anything is changed."""
 
     def __init__(self, answer):
         super().__init__(answer)
@@ -52,7 +42,7 @@ class Refused(Exception):
 # ---------------------------------------------------------------------------------------------
 
 class Input:
-    """'Level, count, two count setpoints, usage in ms, usage setpoint, alarm switch.'"""
+    """What the box holds, 1."""
 
     __slots__ = ("level", "count", "usage", "setpoint1", "setpoint2", "usage_setpoint", "switch")
 
@@ -65,7 +55,7 @@ class Input:
 
 
 class Relay:
-    """'Open or closed, usage in ms, usage setpoint.'  A closed relay has the state 1."""
+    """What the box holds, 2.  A closed relay has the state 1."""
 
     __slots__ = ("state", "usage", "usage_setpoint")
 
@@ -75,7 +65,7 @@ class Relay:
 
 
 class Connection:
-    """'Shut or open, rank, half-read message, Monitor on or off, Monitor due or not.'
+    """What the box holds, 4.
 
     `joined` holds the bytes taken since the opening, less the whole messages cut off their front.
     """
@@ -91,7 +81,7 @@ class Connection:
 
 
 class Pulse:
-    """M-100, a request that stands in the queue.  Of the states only those of masked relays count."""
+    """M-100, 1 and 2: a request that stands in the queue.  Of the states only those of masked relays count."""
 
     __slots__ = ("mask", "states", "duration")
 
@@ -101,6 +91,7 @@ class Pulse:
         self.duration = duration
 
 
+# Messages, IDs.
 INPUT_IDS = tuple(0x01FF + 0x100 * k for k in range(8))         # din1 to din8
 RELAY_IDS = tuple(0x0101FF + 0x100 * k for k in range(8))       # rout1 to rout8
 
@@ -110,7 +101,7 @@ RELAY_IDS = tuple(0x0101FF + 0x100 * k for k in range(8))       # rout1 to rout8
 # ---------------------------------------------------------------------------------------------
 
 def number(data):
-    """'All numbers big-endian and unsigned.'"""
+    """Frame, 2: the highest byte first, no sign."""
     return int.from_bytes(data, "big")
 
 
@@ -119,7 +110,7 @@ def field(value, size):
 
 
 def make_crc_table():
-    """The table of 001, 'CRC-16 Algorithm', generated as its code does."""
+    """Frame, 4: the table of 001, "CRC-16 Algorithm", generated as its code does."""
     table = []
     for n in range(256):
         c, d = 0, n
@@ -134,7 +125,7 @@ CRC_TABLE = make_crc_table()
 
 
 def crc16(data):
-    """'The initial CRC value should be 0.' (001)"""
+    """Frame, 4: 001's rule, which starts at 0."""
     table = CRC_TABLE
     crc = 0
     for byte in data:
@@ -143,8 +134,7 @@ def crc16(data):
 
 
 class Fields:
-    """'Fields are taken off the front of one lent message content, never past its end, and nothing
-    may be left over.'"""
+    """Messages, 2: a content is read from its front on, within its end and up to it."""
 
     __slots__ = ("content", "position")
 
@@ -175,10 +165,10 @@ class Fields:
 # ---------------------------------------------------------------------------------------------
 
 class Box:
-    LONGEST = 1024                      # longest content that is judged
-    BUFFER = 4096                       # least reply buffer
-    PULSES = PULSES                     # most pulses that stand in the queue
-    ROW = PULSES                        # least row that is lent for them
+    LONGEST = 1024                      # Frame, 12: longest content that is judged
+    BUFFER = 4096                       # Frame, 15: least reply buffer
+    PULSES = PULSES                     # M-100, 2: most pulses that stand in the queue
+    ROW = PULSES                        # M-100, 5: least row that is lent for them
 
     # Message types offered, each with the method that serves it.
     OFFERED = {
@@ -196,9 +186,7 @@ class Box:
         self.power()
 
     def power(self, settings=(0,) * 40):
-        """'At power-up all numbers are 0, all relays open, all connections shut.  Setpoints and
-        alarm switches are set by the host at power-up.'
-        """
+        """What the box holds, 5 and 6: everything is 0, open or shut but for what the host sets."""
         self.inputs = [Input(*settings[4 * k:4 * k + 4]) for k in range(8)]
         self.relays = [Relay(settings[32 + k]) for k in range(8)]
         self.clock = 0
@@ -211,25 +199,21 @@ class Box:
     # -- alarms --------------------------------------------------------------------------------
 
     def alarm_state(self, inp):
-        """'Alarm State is 1 when the switch is set and the input is on.'"""
+        """What the box holds, 8: an input that is on, with its switch set."""
         return 1 if inp.switch and inp.level else 0
 
     def count_alarm(self, count, setpoint):
-        """'A setpoint of 0 means no alarm.'  'A count alarm is 1 when the count exceeds its
-        setpoint, in the Monitor message and the read block alike.'
-        """
+        """What the box holds, 7 and 9: above the setpoint, where there is one; the same in both messages."""
         return 1 if setpoint and count > setpoint else 0
 
     def usage_alarm(self, usage, setpoint):
-        """'A usage alarm is 1 when usage is at or above its setpoint.'"""
+        """What the box holds, 7 and 10: from the setpoint on, where there is one."""
         return 1 if setpoint and usage >= setpoint else 0
 
     # -- events besides bytes --------------------------------------------------------------------
 
     def level(self, k, v):
-        """'Off to on adds one to the count, which stays at 4294967295 once there.  The same level
-        again changes nothing.'
-        """
+        """Events, 1: a rise counts one, up to the top; the level that the input has does nothing."""
         if not 1 <= k <= 8 or v > 1:
             return OUT_OF_RANGE
         inp = self.inputs[k - 1]
@@ -244,7 +228,7 @@ class Box:
         return min(count + 1, TOP32)
 
     def pass_(self, d, row=PULSES):
-        """M-100: what comes of d ms is what comes of one ms, d times; 4 to a row under 31.
+        """Events, 2; M-100, 4: d ms do what one ms does, d times.  M-100, 5: a short row is refused.
 
         Nothing but growing happens before the running pulse's end, so the ms up to there are taken
         in one step.  That this comes to the same as `one_ms` d times is tried in test_model.py.
@@ -267,14 +251,12 @@ class Box:
         return SERVED
 
     def one_ms(self):
-        """M-100: first clock and usage, then the queue."""
+        """M-100, 4: first clock and usage, then the queue."""
         self.grow(1)
         self.run_down(1)
 
     def grow(self, d):
-        """'The clock, the usage of each input that is on and of each closed relay grow by d, each
-        stopping at its largest 64-bit number.'
-        """
+        """Events, 2: d ms more for the clock, for inputs that are on and for closed relays, none above 64 bits."""
         self.clock = self.grown(self.clock, d)
         for inp in self.inputs:
             if inp.level:
@@ -287,8 +269,8 @@ class Box:
         return min(ms + d, TOP64)
 
     def run_down(self, ms):
-        """So many ms of the running pulse, no more than it has left, are over.  M-100: the next begins in
-        the ms of its end, which is two changes and not one.
+        """So many ms of the running pulse, no more than it has left, are over.  M-100, 2 and 3: the next begins
+        in the ms of its end, which is two changes and not one.
         """
         if self.queue:
             self.left -= ms
@@ -298,15 +280,15 @@ class Box:
                     self.begin()
 
     def begin(self):
-        """The first pulse of the queue begins: the relays' states before it are remembered."""
+        """M-100, 3: the first pulse of the queue begins, and the relays' states before it are remembered."""
         pulse = self.queue[0]
         self.left = pulse.duration
         self.remembered = self.relay_states()
         self.put_masked(pulse.mask, pulse.states)
 
     def end(self):
-        """M-100: the relays in its mask go back to what they were at its beginning, whatever was done to
-        them meanwhile.  Its place is free again.
+        """M-100, 3: the relays in its mask go back to what they were at its beginning, whatever was done to
+        them meanwhile.  M-100, 2: its place is free again.
         """
         pulse = self.queue.pop(0)
         self.put_masked(pulse.mask, self.remembered)
@@ -316,8 +298,8 @@ class Box:
         return sum(relay.state << k for k, relay in enumerate(self.relays))
 
     def open(self, c, rank):
-        """'Open a connection at a rank: fresh, Monitor on, due if rank is 1 or 2.'  Checked in the
-        order 3, 12, 13; 'an opening is judged on the number alone'.
+        """Events, 3: nothing half read, Monitor on, and due to a user or administrator.  Answer numbers, 1: the
+        number is judged first, then whether it is open, then the rank.
         """
         if c > 3:
             return NO_CONNECTION
@@ -329,28 +311,28 @@ class Box:
         return SERVED
 
     def close(self, c):
-        """'Close a connection: its half-read message is dropped.'  Everything of it is 0 then."""
+        """Events, 4: half a message is forgotten.  Everything of the connection is 0 then."""
         if not self.is_open(c):
             return NO_CONNECTION
         self.connections[c] = Connection()
         return SERVED
 
     def collect(self, c, cap):
-        """'Collect: if Monitor is due, write one Monitor message and clear the mark.'  Answers the
-        number and the reply.
+        """Events, 5 and 7: one Monitor message, as the box stands now, if one is due; it no longer is then.
+        Answers the number and the reply.
         """
         refused = self.refuse_call(c, cap)
         if refused:
             return refused, b""
         conn = self.connections[c]
         if not conn.due:
-            return NOTHING_ENDED, b""
+            return WAITING, b""
         conn.due = 0
         return SERVED, self.frame(self.monitor_content())
 
     def changed(self):
-        """'When the level of an input or the state of a relay really changes, Monitor becomes due on
-        each open connection of rank 1 or 2 that has it on, the sender included.'
+        """Events, 6: a real change of a level or relay is due to every open connection that has a rank and
+        Monitor on, whoever made it.
         """
         for conn in self.connections:
             if conn.open and conn.rank >= 1 and conn.monitor:
@@ -362,19 +344,19 @@ class Box:
         return c <= 3 and self.connections[c].open == 1
 
     def refuse_call(self, c, cap, row=PULSES):
-        """3, then 4: judged before any byte, for an empty piece too.  'Only byte and collect calls
-        have a reply buffer'; a collection is lent no row.  0 when the call may go on.
+        """Answer numbers, 1: first the connection is judged, then what is lent; before any byte, for an empty
+        piece too.  Answer numbers, 7: only these calls are lent a buffer; a collection is lent no row.  None
+        when the call may go on.
         """
         if not self.is_open(c):
             return NO_CONNECTION
         if cap < self.BUFFER or row < self.ROW:
             return SHORT_BUFFER
-        return 0
+        return None
 
     def bytes_(self, c, cap, piece, row=PULSES):
-        """'The bytes of a piece are taken one by one until a message ends or the piece does.  Taken is
-        then fixed: through the byte that ended it, or the whole piece.'  Answers the number, the
-        bytes taken and the reply.
+        """Frame, 10 and 11: bytes are taken up to the end of a message, or else all.  Answers the number,
+        the bytes taken and the reply.
         """
         refused = self.refuse_call(c, cap, row)
         if refused:
@@ -384,7 +366,7 @@ class Box:
         conn.joined += piece
         end = self.message_end(conn.joined)
         if end is None:
-            return NOTHING_ENDED, len(piece), b""
+            return WAITING, len(piece), b""
         message = bytes(conn.joined[:end])
         conn.joined = bytearray()       # what follows in the piece was not taken
         answer, reply = self.judge(conn, message)
@@ -393,9 +375,8 @@ class Box:
     def message_end(self, joined):
         """The length of the first message of the joined bytes; None while it is unfinished.
 
-        'At a message start, 0x01 begins a frame, 0x06 is a keep-alive, any other byte is stray.
-        Inside a frame no byte has such a meaning.'  'Byte 0x01, length N in 2 bytes, checksum in 2,
-        then N content bytes.'
+        Frame, 7, 8 and 1: only 0x01 in front begins a frame: 5 bytes, of which the second and third are
+        the content's length, and the content.
         """
         if not joined:
             return None
@@ -407,10 +388,8 @@ class Box:
         return end if len(joined) >= end else None
 
     def judge(self, conn, message):
-        """One whole message: its number and its reply.  In the order 5 or 6, 7, then 8 to 11.
-
-        'N above 1,024: the N bytes are swallowed, none judged, and the answer comes at the last of
-        them.'
+        """One whole message: its number and its reply.  Frame, 7; Answer numbers, 1: length before checksum,
+        both before the content.  Frame, 12: of a content that is too long nothing else is judged.
         """
         if message[0] == 0x06:
             return KEEP_ALIVE, b""
@@ -428,18 +407,18 @@ class Box:
         return SERVED, self.frame(answer) if answer else b""
 
     def checksum_passes(self, sent, content):
-        """'The checksum covers the content only.'  'A sent checksum of 0xFFFF passes unchecked.'"""
+        """Frame, 3 and 5: that of the content, without the header; 0xFFFF is none."""
         return sent == 0xFFFF or sent == crc16(content)
 
     def frame(self, content):
-        """'Replies always carry the true checksum.'"""
+        """Frame, 6: with the true checksum."""
         return b"\x01" + field(len(content), 2) + field(crc16(content), 2) + content
 
     # -- messages offered --------------------------------------------------------------------------
 
     def serve(self, conn, content):
-        """The content of the reply to a message, empty where it has none.  'N is 0, or type not
-        offered': 8.  'Rank 1 is needed for all, rank 2 for type 7': 9.
+        """The content of the reply to a message, empty where it has none.  Answer numbers, 1: the type is
+        judged first, then the rank.
         """
         if not content or content[0] not in self.OFFERED:
             raise Refused(NOT_OFFERED)
@@ -449,11 +428,12 @@ class Box:
         return getattr(self, self.OFFERED[kind])(conn, self.Fields(content, 1))
 
     def rank_needed(self, kind):
+        """Messages, 1: administrators alone set the clock."""
         return 2 if kind == 7 else 1
 
     def request(self, conn, fields):
-        """5: 'request (2), optionally interval (4, read and not used): 3 or 7 bytes.'  'The request or
-        action is judged (11) as soon as the content holds it, before the length.'
+        """Messages, 5, 1: request (2) and, or not, an interval (4), for which there is no use yet.  Messages,
+        5, 6; Answer numbers, 2: a request that is there is judged before the length.
         """
         request = fields.number(2)
         if request not in (0, 1, 2, 4, 5):
@@ -463,24 +443,22 @@ class Box:
         fields.end()
         if request == 0:
             return self.clock_content()
-        if request == 1:                # "answers type 1 and leaves the due mark"
+        if request == 1:                # Messages, 5, 3: the due mark stays
             return self.monitor_content()
         if request == 2:
             return self.usage_content()
-        if request == 4:                # "turns Monitor off and clears due"
+        if request == 4:                # Messages, 5, 5: off, and what was due with it
             conn.monitor = conn.due = 0
-        else:                           # "5 turns it on", and leaves the due mark
+        else:                           # Messages, 5, 5: on; the due mark stays
             conn.monitor = 1
         return b""
 
     def clock_content(self):
-        """6: clock, 9 bytes."""
+        """Messages, 5, 2: type 6, 9 bytes."""
         return b"\x06" + field(self.clock, 8)
 
     def monitor_content(self):
-        """1: 'version string (length byte, then `jr310 3.10.0001`), for each input level, Alarm State,
-        count (4), count alarms 1 and 2, for each relay its state, then clock: 97 bytes.'
-        """
+        """Messages, 1, 1: type 1: the version behind its length, the inputs, the relays, the clock; 97 bytes."""
         content = bytearray(b"\x01" + field(len(VERSION), 1) + VERSION)
         for inp in self.inputs:
             content += self.input_status(inp)
@@ -490,26 +468,26 @@ class Box:
         return bytes(content)
 
     def input_status(self, inp):
-        """'Level, Alarm State, count, two count alarms': what Monitor message and read block share."""
+        """Messages, 1, 1, and 21, 4: what Monitor message and read block share."""
         return (field(inp.level, 1) + field(self.alarm_state(inp), 1) + field(inp.count, 4)
                 + field(self.count_alarm(inp.count, inp.setpoint1), 1)
                 + field(self.count_alarm(inp.count, inp.setpoint2), 1))
 
     def usage_content(self):
-        """8: '16 usages, inputs then relays, then clock, 137 bytes.'"""
+        """Messages, 5, 4: type 8: the usages of inputs and relays, the clock; 137 bytes."""
         usages = [device.usage for device in self.inputs + self.relays]
         return b"\x08" + b"".join(field(usage, 8) for usage in usages) + field(self.clock, 8)
 
     def set_clock(self, conn, fields):
-        """7: '8 bytes after the type, any number.  No reply.'"""
+        """Messages, 7: a clock of 8 bytes, whatever it is.  No reply."""
         clock = fields.number(8)
         fields.end()
         self.clock = clock
         return b""
 
     def command(self, conn, fields):
-        """10: '4 bytes in all', 8 for the pulses of M-100.  The action is judged first, then the length, then
-        the channel.  No reply.
+        """Messages, 10: 4 bytes with the type, 8 for the pulses of M-100, 1.  Answer numbers, 2: the action is
+        judged first, then the length, then the channel.  No reply.
         """
         action = fields.number(1)
         if action not in (1, 2, 3, 5, 6, 7, 8, 9, 10):
@@ -530,14 +508,14 @@ class Box:
         return b""
 
     def of_channel(self, devices, channel):
-        """'A channel (2 bytes, 1 to 8).'"""
+        """Messages, 10, 2: there are eight channels."""
         if not 1 <= channel <= 8:
             raise Refused(OUT_OF_RANGE)
         return devices[channel - 1]
 
     def channel_pulse(self, fields):
-        """Action 6, 001: channel (2), duration (4).  M-100: it closes the relay for that long, which is the
-        pulse with the relay alone in its mask, and closed.
+        """M-100, 1: action 6, 001: channel (2), duration (4): the pulse with that relay alone in its mask, and
+        closed.
         """
         channel, duration = fields.number(2), fields.number(4)
         fields.end()
@@ -545,23 +523,25 @@ class Box:
         self.pulse(1 << channel - 1, 1 << channel - 1, duration)
 
     def block_pulse(self, fields):
-        """Action 7, 001: mask (1), states (1), duration (4), lowest bit channel 1."""
+        """M-100, 1: action 7, 001: mask (1), states (1), duration (4), lowest bit channel 1."""
         mask, states, duration = fields.number(1), fields.number(1), fields.number(4)
         fields.end()
         self.pulse(mask, states, duration)
 
     def pulse(self, mask, states, duration):
-        """M-100: 11 for duration 0, then 14 for a full queue.  Where no other stands, the pulse begins here."""
+        """M-100, 7: first the duration is judged, then whether the queue is full.  M-100, 2: where no other
+        stands, the pulse begins here.
+        """
         if duration == 0:
             raise Refused(OUT_OF_RANGE)
         if len(self.queue) >= self.PULSES:
-            raise Refused(FULL_QUEUE)
+            raise Refused(QUEUE_FULL)
         self.queue.append(Pulse(mask, states, duration))
         if len(self.queue) == 1:
             self.begin()
 
     def block_change(self, mask, state):
-        """'Mask byte, state byte, lowest bit channel 1; only masked relays take the state.'"""
+        """Messages, 10, 3: the masked relays take their bit of the state, lowest bit relay 1."""
         self.put_masked(mask, state)
 
     def put_masked(self, mask, states):
@@ -574,7 +554,7 @@ class Box:
             self.changed()
 
     def channel_action(self, action, inp, relay):
-        """'1 close, 2 open, 3 toggle, 5 clear input count, 8 clear input usage, 9 clear relay usage.'"""
+        """Messages, 10, 2: close, open or toggle the relay; clear the input's count or usage, or the relay's usage."""
         really = False
         if action == 1:
             really = self.put_relay(relay, 1)
@@ -598,8 +578,8 @@ class Box:
         return before != state
 
     def read_devices(self, conn, fields):
-        """21: 'count (2), that many IDs (8).  Answer 22: count, then for each ID in the order asked: ID,
-        block length (2), block.'
+        """Messages, 21, 1 and 2: count (2) and IDs (8); type 22 has the count too, and of each ID in turn
+        itself, how long its block is (2), and the block.
         """
         count = fields.number(2)
         ids = [fields.number(8) for _ in range(count)]
@@ -611,9 +591,8 @@ class Box:
         return bytes(content)
 
     def read_block(self, id):
-        """'An unknown ID has length 0; a repeated one is reported again.  Input block 17 bytes: level,
-        Alarm State, count, two count alarms, usage, usage alarm.  Relay block 10: state, usage, usage
-        alarm.'
+        """Messages, 21, 3 to 5: nothing of an unknown ID; else what Monitor shows of the device, its usage and
+        usage alarm: 17 bytes of an input, 10 of a relay.
         """
         device = self.devices.get(id)
         if device is None:
@@ -623,8 +602,8 @@ class Box:
                 + field(self.usage_alarm(device.usage, device.usage_setpoint), 1))
 
     def write_devices(self, conn, fields):
-        """23: 'count, then ID, length (2), block for each.  The whole message must fit exactly, else 10 and
-        nothing is written.  Entries are then done in order.'  'Answer: 24, then the number written (2).'
+        """Messages, 23, 1 to 3: count (2), and of each entry ID (8), length (2) and block; none is written before
+        all are known to fit, then one by one.  Messages, 23, 6: type 24 says how many were (2).
         """
         count = fields.number(2)
         entries = [(fields.number(8), fields.block(fields.number(2))) for _ in range(count)]
@@ -636,8 +615,8 @@ class Box:
         return b"\x18" + field(written, 2)
 
     def write_entry(self, id, block):
-        """'One fails alone, changing nothing, if the ID is unknown, the block's length is wrong, a flag is
-        unknown, or a written relay state is above 1.'  Whether it was written.
+        """Messages, 23, 3: whether the entry was written; one that was not changes nothing, and no other is
+        touched by it.
         """
         if id in INPUT_IDS:
             return self.write_input(self.devices[id], block)
@@ -646,8 +625,8 @@ class Box:
         return False
 
     def write_input(self, inp, block):
-        """'Input flags 1 reset count, 2 write count, 4 reset usage; 1 or 5 bytes, 5 needed for flag 2; with
-        1 and 2 together the written count stands.'  Flags 0: written, changes nothing.
+        """Messages, 23, 4: flag 1 clears the count, flag 2 then writes it and needs the four bytes behind the
+        flags, flag 4 clears the usage.  Flags 0: written, changes nothing.
         """
         if len(block) not in (1, 5):
             return False
@@ -665,9 +644,9 @@ class Box:
         return True
 
     def write_relay(self, relay, block):
-        """'Relay flags 1 state, 2 reset usage; 1 or 2 bytes, 2 needed for flag 1.'  A state byte whose flag
-        is not set is read and not used.  'The entries of a WriteDevices message are each a change of
-        their own, so close and then open makes Monitor due.'
+        """Messages, 23, 5: flag 1 writes the state and needs the byte behind the flags, flag 2 clears the
+        usage.  A state byte whose flag is not set is read and not used.  Events, 8: each entry is a
+        change by itself, so a later one takes no mark back.
         """
         if len(block) not in (1, 2):
             return False
@@ -683,8 +662,8 @@ class Box:
         return True
 
     def enumerate_devices(self, conn, fields):
-        """26: 'flags (1 byte) 1, 2 or 3, else 11.  Answer 27: flags, count, IDs, inputs before relays,
-        rising.  Flag 2 alone finds none.'
+        """Messages, 26: flags (1); type 27 repeats them before count (2) and IDs, first those of the inputs.
+        Flag 1 finds all, flag 2 none.
         """
         flags = fields.number(1)
         fields.end()
@@ -707,8 +686,8 @@ class Box:
         return f"C {self.clock} I {inputs} R {relays} N {connections} P {self.queue_shown()}"
 
     def queue_shown(self):
-        """How many pulses stand, then of each, the running one first, mask,states,left; 'left: ms to its end;
-        of a waiting one its duration'.  If one runs, `was` and its relays' bits at its beginning.
+        """How many pulses stand, then of each, the running one first, mask,states,left: the ms to its end, or the
+        duration of one that waits.  If one runs, `was` and its relays' bits at its beginning.
         """
         if not self.queue:
             return "0"
@@ -747,7 +726,7 @@ class Box:
             return self.state()
         if name == "power":
             self.power(*([numbers(words, SETTING_TOPS)] if words else []))
-            return "1"
+            return str(SERVED)
         raise BadLine
 
 
@@ -756,11 +735,10 @@ class Box:
 # ---------------------------------------------------------------------------------------------
 
 class BadLine(Exception):
-    """'Any other line': `?`"""
+    """A line that REPLAY.md does not have: `?`"""
 
 
-# "For inputs 1 to 8 setpoint 1, setpoint 2, usage setpoint, alarm switch (0 or 1), then the usage
-# setpoints of relays 1 to 8."
+# The 40 numbers of `power`, each at most: four for each input, one for each relay.
 SETTING_TOPS = (TOP32, TOP32, TOP64, 1) * 8 + (TOP64,) * 8
 
 DECIMAL = re.compile(r"[0-9]{1,20}")
@@ -780,12 +758,12 @@ def numbers(words, tops):
 
 
 def row_of(words):
-    """'ROW: the length of the row that is lent for this call, 0 to 64; without it, 31.'"""
+    """The records of the row that is lent, 64 at most; without a word as many as there must be."""
     return numbers(words, (64,))[0] if words else PULSES
 
 
 def piece_of(word):
-    """'HEX is the piece, `-` for an empty one, up to 200,000 digits.'"""
+    """The piece: `-` where it is empty, else hexadecimal, 200,000 digits at most."""
     if word == "-":
         return b""
     if len(word) > 200000 or len(word) % 2 or not HEXADECIMAL.fullmatch(word):

@@ -15,8 +15,9 @@ import time
 
 import model
 import traces
-from model import (Box, Fields, Refused, crc16, field, number, BAD_CHECKSUM, BAD_LENGTH, KEEP_ALIVE, NOT_OFFERED,
-                   NOTHING_ENDED, OUT_OF_RANGE, PULSES, SERVED, TOO_LONG, TOP32, TOP64)
+from answers import (BAD_CHECKSUM, BAD_LENGTH, BAD_RANK, KEEP_ALIVE, LOW_RANK, NOT_OFFERED, OUT_OF_RANGE, QUEUE_FULL, SERVED,
+                     SHORT_BUFFER, STRAY, TOO_LONG, WAITING)
+from model import Box, Fields, PULSES, Refused, TOP32, TOP64, crc16, field, number
 
 MUTANTS = {}
 
@@ -194,7 +195,7 @@ class _(Box):
 @named("rank judged before the open mark")
 class _(Box):
     def open(self, c, rank):
-        return model.BAD_RANK if c <= 3 and rank > 2 else super().open(c, rank)
+        return BAD_RANK if c <= 3 and rank > 2 else super().open(c, rank)
 
 
 @named("rank 3 opened")
@@ -256,7 +257,7 @@ class _(Box):
 class _(Box):
     def collect(self, c, cap):
         if c <= 3 and not self.connections[c].open and cap >= 4096:
-            return NOTHING_ENDED, b""
+            return WAITING, b""
         return super().collect(c, cap)
 
 
@@ -412,7 +413,7 @@ class _(OneStore):
 @named("checksum judged before the last byte is in")
 class _(Box):
     def bytes_(self, c, cap, piece, row=PULSES):
-        if self.refuse_call(c, cap, row) == 0:
+        if self.refuse_call(c, cap, row) is None:
             joined = self.connections[c].joined + piece
             if len(joined) >= 5 and joined[0] == 1:
                 size = number(joined[1:3])
@@ -460,7 +461,7 @@ class _(Box):
 @named("0x06 inside content a keep-alive")
 class _(Box):
     def bytes_(self, c, cap, piece, row=PULSES):
-        if self.refuse_call(c, cap, row) == 0 and len(self.connections[c].joined) > 5 and piece[:1] == b"\x06":
+        if self.refuse_call(c, cap, row) is None and len(self.connections[c].joined) > 5 and piece[:1] == b"\x06":
             return KEEP_ALIVE, 1, b""
         return super().bytes_(c, cap, piece, row)
 
@@ -468,7 +469,7 @@ class _(Box):
 @named("0x01 inside content begins a frame")
 class _(Box):
     def bytes_(self, c, cap, piece, row=PULSES):
-        if self.refuse_call(c, cap, row) == 0 and len(self.connections[c].joined) > 5 and piece[:1] == b"\x01":
+        if self.refuse_call(c, cap, row) is None and len(self.connections[c].joined) > 5 and piece[:1] == b"\x01":
             self.connections[c].joined = bytearray()
         return super().bytes_(c, cap, piece, row)
 
@@ -492,14 +493,15 @@ class _(Box):
 class _(Box):
     def bytes_(self, c, cap, piece, row=PULSES):
         answer, taken, reply = super().bytes_(c, cap, piece, row)
-        return answer, len(piece) if answer in (7, 8, 9, 10, 11) else taken, reply
+        refused = answer in (BAD_CHECKSUM, NOT_OFFERED, LOW_RANK, BAD_LENGTH, OUT_OF_RANGE)
+        return answer, len(piece) if refused else taken, reply
 
 
 @named("strays skipped in one call")
 class _(Box):
     def bytes_(self, c, cap, piece, row=PULSES):
         answer, taken, reply = super().bytes_(c, cap, piece, row)
-        if answer == model.STRAY:
+        if answer == STRAY:
             while taken < len(piece) and piece[taken] not in (1, 6):
                 taken += 1
         return answer, taken, reply
@@ -568,7 +570,7 @@ class _(Box):
 class _(Box):
     def collect(self, c, cap):
         if self.is_open(c) and not self.connections[c].due:
-            return NOTHING_ENDED, b""
+            return WAITING, b""
         return super().collect(c, cap)
 
 
@@ -576,8 +578,8 @@ class _(Box):
 class _(Box):
     def bytes_(self, c, cap, piece, row=PULSES):
         answer = super().bytes_(c, cap, piece, row)
-        if cap < 4096 and self.is_open(c) and super().bytes_(c, 4096, piece, row)[0] == NOTHING_ENDED:
-            return model.SHORT_BUFFER, 0, b""
+        if cap < 4096 and self.is_open(c) and super().bytes_(c, 4096, piece, row)[0] == WAITING:
+            return SHORT_BUFFER, 0, b""
         return answer
 
 
@@ -593,7 +595,7 @@ class _(Box):
 class _(Box):
     def serve(self, conn, content):
         if content and conn.rank == 0:
-            raise Refused(model.LOW_RANK)
+            raise Refused(LOW_RANK)
         return super().serve(conn, content)
 
 
@@ -947,7 +949,7 @@ class _(Box):
 @named("full queue answered as out of range")
 class _(Box):
     def pulse(self, mask, states, duration):
-        if len(self.queue) >= 31:
+        if len(self.queue) >= PULSES:
             raise Refused(OUT_OF_RANGE)
         super().pulse(mask, states, duration)
 
@@ -955,32 +957,32 @@ class _(Box):
 @named("full queue judged before the duration")
 class _(Box):
     def pulse(self, mask, states, duration):
-        if len(self.queue) >= 31:
-            raise Refused(model.FULL_QUEUE)
+        if len(self.queue) >= PULSES:
+            raise Refused(QUEUE_FULL)
         super().pulse(mask, states, duration)
 
 
 @named("full queue judged before the channel")
 class _(Box):
     def command(self, conn, fields):
-        if pulsing(fields) and fields.content[1] == 6 and duration_of(fields) and len(self.queue) >= 31:
-            raise Refused(model.FULL_QUEUE)
+        if pulsing(fields) and fields.content[1] == 6 and duration_of(fields) and len(self.queue) >= PULSES:
+            raise Refused(QUEUE_FULL)
         return super().command(conn, fields)
 
 
 @named("full queue judged before the length")
 class _(Box):
     def command(self, conn, fields):
-        if len(fields.content) > 1 and fields.content[1] in (6, 7) and len(fields.content) != 8 and len(self.queue) >= 31:
-            raise Refused(model.FULL_QUEUE)
+        if len(fields.content) > 1 and fields.content[1] in (6, 7) and len(fields.content) != 8 and len(self.queue) >= PULSES:
+            raise Refused(QUEUE_FULL)
         return super().command(conn, fields)
 
 
 @named("full queue refuses every command")
 class _(Box):
     def command(self, conn, fields):
-        if len(fields.content) == 4 and len(self.queue) >= 31:
-            raise Refused(model.FULL_QUEUE)
+        if len(fields.content) == 4 and len(self.queue) >= PULSES:
+            raise Refused(QUEUE_FULL)
         return super().command(conn, fields)
 
 
@@ -990,7 +992,7 @@ class _(Box):
         try:
             super().pulse(mask, states, duration)
         except Refused as refusal:
-            if refusal.answer == model.FULL_QUEUE:
+            if refusal.answer == QUEUE_FULL:
                 self.queue[-1] = model.Pulse(mask, states, duration)
             raise
 
@@ -1301,8 +1303,8 @@ class _(Box):
 @named("finished place not used again")
 class _(Box):
     def pulse(self, mask, states, duration):
-        if duration and self.used == 31:
-            raise Refused(model.FULL_QUEUE)
+        if duration and self.used == PULSES:
+            raise Refused(QUEUE_FULL)
         super().pulse(mask, states, duration)
         self.used += 1
 
@@ -1315,8 +1317,8 @@ class _(Box):
 class _(Box):
     def pulse(self, mask, states, duration):
         self.used = self.used if self.queue else 0
-        if duration and self.used == 31:
-            raise Refused(model.FULL_QUEUE)
+        if duration and self.used == PULSES:
+            raise Refused(QUEUE_FULL)
         super().pulse(mask, states, duration)
         self.used += 1
 
@@ -1384,7 +1386,7 @@ class _(OneChange):
 @named("usage of a whole pass by the states before it")
 class _(Box):
     def pass_(self, d, row=PULSES):
-        if row >= 31:
+        if row >= PULSES:
             super().grow(d)
         self.growing = False
         answer = super().pass_(d, row)
@@ -1448,7 +1450,7 @@ class _(Box):
 @named("d = 0 takes one ms off the running pulse")
 class _(Box):
     def pass_(self, d, row=PULSES):
-        if d == 0 and self.queue and row >= 31:
+        if d == 0 and self.queue and row >= PULSES:
             self.run_down(1)
         return super().pass_(d, row)
 
@@ -1538,8 +1540,8 @@ class _(Box):
 @named("row judged before the connection")
 class _(Box):
     def bytes_(self, c, cap, piece, row=PULSES):
-        if row < 31:
-            return model.SHORT_BUFFER, 0, b""
+        if row < PULSES:
+            return SHORT_BUFFER, 0, b""
         return super().bytes_(c, cap, piece, row)
 
 
@@ -1547,8 +1549,8 @@ class _(Box):
 class _(Box):
     def bytes_(self, c, cap, piece, row=PULSES):
         answer = super().bytes_(c, cap, piece, row)
-        if row < 31 and self.is_open(c) and super().bytes_(c, cap, piece)[0] == NOTHING_ENDED:
-            return model.SHORT_BUFFER, 0, b""
+        if row < PULSES and self.is_open(c) and super().bytes_(c, cap, piece)[0] == WAITING:
+            return SHORT_BUFFER, 0, b""
         return answer
 
 
@@ -1573,7 +1575,7 @@ class _(Box):
 @named("time passes though the row is short")
 class _(Box):
     def pass_(self, d, row=PULSES):
-        if row < 31:
+        if row < PULSES:
             self.grow(d)
         return super().pass_(d, row)
 

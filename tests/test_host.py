@@ -23,7 +23,9 @@ import time
 import unittest
 
 import traces
-from boxd import (Boxd, CLOCK, Client, HOW_MANY, MONITOR, PATIENCE, PROGRAM, Program, ROOT, block_pulse, frame, judge, login, pulse,
+from answers import (BAD_CHECKSUM, BAD_LENGTH, KEEP_ALIVE, LOW_RANK, NOT_OFFERED, OUT_OF_RANGE, QUEUE_FULL, SERVED, STRAY, TOO_LONG,
+                     WAITING)
+from boxd import (Boxd, CLOCK, Client, HOW_MANY, MONITOR, PATIENCE, PROGRAM, Program, ROOT, block_pulse, frame, judge, login, pulse, refused,
                   string)
 from model import Box, INPUT_IDS, RELAY_IDS, field, number
 
@@ -117,7 +119,7 @@ class Clients(Case):
             host.quit()
             played = judge(host, clients)
         self.assertEqual(len(clients), 12)
-        for answer in (0, 1, 2, 5, 6, 7, 8, 10, 11):
+        for answer in (WAITING, SERVED, KEEP_ALIVE, STRAY, TOO_LONG, BAD_CHECKSUM, NOT_OFFERED, BAD_LENGTH, OUT_OF_RANGE):
             self.assertIn(answer, played.answers)
 
     def test_slow_reader(self):
@@ -169,8 +171,8 @@ class Clients(Case):
             host.quit()
             played = judge(host, floods + [other])
             self.assertLess(host.count("stray bytes"), 9000)
-        self.assertEqual(played.answers[6], 60)
-        self.assertGreaterEqual(played.answers[5], 29000)
+        self.assertEqual(played.answers[TOO_LONG], 60)
+        self.assertGreaterEqual(played.answers[STRAY], 29000)
 
     def test_fifth_client(self):
         """The fifth is told so, in the protocol's own words, and closed; the four go on; a place that is left is given again."""
@@ -295,8 +297,8 @@ class Events(Case):
             client.send(frame(b"\x0A\x0A\x81\x81"))
             for line, said in (("level 1 1", "input 1 is on: 1 counted"), ("level 1 1", "input 1 was on already"),
                                ("  level\t8   1 ", "input 8 is on"), ("level 1 0", "input 1 is off: 1 counted"),
-                               ("level 9 1", r"level refused \(11\): write"), ("level 1 2", r"level refused \(11\)"),
-                               ("level x y", r"level refused \(11\)"), ("level 1", "no such command: write"),
+                               ("level 9 1", "level " + refused(OUT_OF_RANGE) + ": write"), ("level 1 2", "level " + refused(OUT_OF_RANGE)),
+                               ("level x y", "level " + refused(OUT_OF_RANGE)), ("level 1", "no such command: write"),
                                ("stat", "no such command"), ("x" * 5000, "a line that long")):
                 before = len(host.lines)
                 host.tell(line)
@@ -433,13 +435,13 @@ class Pulses(Case):
             "the pulse of a block of relays, mask C0 state 00, 60000 ms, has begun; relay 1 is open now"])
 
     def test_full_queue(self):
-        """31 stand at most: the next is refused and told why, and finished places are used again."""
+        """31 stand at most: the next is refused and told why; with each end there is room for one more."""
         with Boxd("--quiet", trace=True) as host, Client(host.port) as client, Client(host.port) as other:
             client.send(pulse(1, 1500) + pulse(2, 1) * 30 + pulse(3, 1) + HOW_MANY)
             self.assertEqual(client.next_of(254)[4], 31)
             self.assertEqual(self.how_many(other), 31)
             host.wait_for("connection 0 asked for a pulse of relay 2, 1 ms: it waits behind 30 others")
-            host.wait_for(r"refused \(14\): 31 pulses stand in the queue")
+            host.wait_for(refused(QUEUE_FULL) + ": 31 pulses stand in the queue")
             while self.how_many(other):
                 pass
             client.send(pulse(4, 1) * 40)
@@ -489,7 +491,7 @@ class Pulses(Case):
             host.quit()
 
     def test_how_many_is_asked_right(self):
-        """Another name, command type or payload is no question of this host: no answer, and 8 as before."""
+        """Another name, command type or payload is no question of this host: no answer, and refused as a type that is not offered."""
         asks = HOW_MANY[5:]
         wrong = (asks[:-1], asks + b"\x00", asks[:-1] + b"\x01", asks[:-3] + b"\x01\x00\x00", asks.replace(b"pulses", b"Pulses"), b"\xFE" + asks[1:],
                  asks[:1], asks[:8])
@@ -499,7 +501,7 @@ class Pulses(Case):
             client.finish()
             host.quit()
             judge(host, [client])
-        self.assertEqual(host.count(r"refused \(8\)"), len(wrong))
+        self.assertEqual(host.count(refused(NOT_OFFERED)), len(wrong))
 
 
 # ---------------------------------------------------------------------------------------------
@@ -620,8 +622,8 @@ class Login(Case):
             box.relays[3].state = 1
             self.monitor_as_model(anna, box)
             host.quit()
-        self.assertEqual(host.count(r"refused \(9\)"), 9)
-        self.assertEqual(host.count(r"refused \(8\)"), 1)
+        self.assertEqual(host.count(refused(LOW_RANK)), 9)
+        self.assertEqual(host.count(refused(NOT_OFFERED)), 1)
         self.assertTrue(host.find("anna logged in, user"))
         self.assertTrue(host.find("olav logged in, administrator"))
 

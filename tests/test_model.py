@@ -3,8 +3,8 @@
 
     python3 tests/test_model.py
 
-Expected values are those of 01-scope.md, REPLAY.md and 001; the sentence stands with each check.  Those of
-request M-100 of 02 are worked out by hand from its text, and the reason stands with each.
+Expected values are those of 01-scope.md, REPLAY.md and 001; the sentence's place in 01 stands with each check, counted as in
+model.py.  Those of request M-100 of 02 are worked out by hand from its text, and the reason stands with each.
 """
 
 import os
@@ -15,7 +15,9 @@ import unittest
 
 import hold
 import traces
-from model import Box, CRC_TABLE, INPUT_IDS, RELAY_IDS, TOP32, TOP64, crc16, field
+from answers import (ALREADY_OPEN, BAD_CHECKSUM, BAD_LENGTH, BAD_RANK, KEEP_ALIVE, LOW_RANK, NO_CONNECTION, NOT_OFFERED,
+                     OUT_OF_RANGE, QUEUE_FULL, SERVED, SHORT_BUFFER, STRAY, TOO_LONG, WAITING)
+from model import Box, CRC_TABLE, INPUT_IDS, PULSES, RELAY_IDS, TOP32, TOP64, crc16, field
 from mutants import MUTANTS
 
 HERE = os.path.dirname(os.path.abspath(__file__))
@@ -51,7 +53,7 @@ class Case(unittest.TestCase):
         if reply:
             self.assertEqual(reply[:1], b"\x01")
             self.assertEqual(reply[1:3], field(len(reply) - 5, 2))
-            self.assertEqual(reply[3:5], field(crc16(reply[5:]), 2), "replies always carry the true checksum")
+            self.assertEqual(reply[3:5], field(crc16(reply[5:]), 2), "Frame, 6")
         return answer, reply[5:].hex().upper()
 
     def answer(self, hexadecimal, c=0, sent=0xFFFF):
@@ -71,22 +73,23 @@ class Case(unittest.TestCase):
         """The number written; each entry an ID and a block in hexadecimal."""
         text = "".join(f"{id:016X}{len(block) // 2:04X}{block}" for id, block in entries)
         answer, reply = self.content(f"17{len(entries):04X}{text}")
-        self.assertEqual(answer, 1)
+        self.assertEqual(answer, SERVED)
         self.assertEqual(reply[:2], "18")
         return int(reply[2:], 16)
 
     def read(self, id):
         """The block of one device in hexadecimal."""
         answer, reply = self.content(f"150001{id:016X}")
-        self.assertEqual((answer, reply[:22]), (1, f"160001{id:016X}"))
+        self.assertEqual((answer, reply[:22]), (SERVED, f"160001{id:016X}"))
         self.assertEqual(int(reply[22:26], 16), len(reply[26:]) // 2)
         return reply[26:]
 
 
 class EachEdge(Case):
-    """01, 'Both sides of each edge'."""
+    """01, Edges."""
 
     def test_count_4294967294_a_rise_then_another(self):
+        """Edges, 2."""
         self.write((INPUT_IDS[0], "02FFFFFFFE"))
         self.assertEqual(self.count(), 4294967294)
         self.box.level(1, 1)
@@ -96,43 +99,51 @@ class EachEdge(Case):
         self.assertEqual(self.count(), 4294967295)
 
     def test_input_on_told_on(self):
+        """Edges, 3."""
         self.box.level(1, 1)
         self.box.collect(0, 4096)
-        self.assertEqual(self.box.level(1, 1), 1)
+        self.assertEqual(self.box.level(1, 1), SERVED)
         self.assertEqual((self.count(), self.due()), (1, 0))
         self.box.open(1, 1)
         self.box.level(1, 1)
         self.assertEqual((self.count(), self.due(0), self.due(1)), (1, 0, 1))
 
     def test_relays_00000101_mask_00000110_state_00000010(self):
+        """Edges, 4."""
         self.answer("0A0AFF05")
         self.assertEqual(self.relays(), "00000101")
-        self.assertEqual(self.content("0A0A0602"), (1, ""))
+        self.assertEqual(self.content("0A0A0602"), (SERVED, ""))
         self.assertEqual(self.relays(), "00000011")
 
     def test_mask_0(self):
-        self.assertEqual(self.content("0A0A00FF"), (1, ""))
+        """Edges, 5."""
+        self.assertEqual(self.content("0A0A00FF"), (SERVED, ""))
         self.assertEqual((self.relays(), self.due()), ("00000000", 0))
 
     def test_channels_8_9_0(self):
-        self.assertEqual(self.content("0A030008"), (1, ""))
+        """Edges, 6."""
+        self.assertEqual(self.content("0A030008"), (SERVED, ""))
         self.assertEqual(self.relays(), "10000000")
-        self.assertEqual(self.answer("0A030009"), 11)
-        self.assertEqual(self.answer("0A030000"), 11)
+        self.assertEqual(self.answer("0A030009"), OUT_OF_RANGE)
+        self.assertEqual(self.answer("0A030000"), OUT_OF_RANGE)
         self.assertEqual(self.relays(), "10000000")
 
     def test_n_0_with_0xffff(self):
-        self.assertEqual(self.feed("010000FFFF"), (8, 5, b""))
+        """Edges, 7."""
+        self.assertEqual(self.feed("010000FFFF"), (NOT_OFFERED, 5, b""))
 
     def test_request_4_with_interval(self):
-        self.assertEqual(self.content("05000400000000"), (1, ""))
-        self.assertEqual(self.answer("050004000000"), 10)
+        """Edges, 8."""
+        self.assertEqual(self.content("05000400000000"), (SERVED, ""))
+        self.assertEqual(self.answer("050004000000"), BAD_LENGTH)
 
     def test_write_flags_3_count_7(self):
+        """Edges, 9."""
         self.assertEqual(self.write((INPUT_IDS[0], "0300000007")), 1)
         self.assertEqual(self.count(), 7)
 
     def test_setpoint_100(self):
+        """Edges, 10."""
         self.power(setpoint1=100, setpoint2=0)
         self.write((INPUT_IDS[0], "0200000064"))
         self.assertEqual(self.read(INPUT_IDS[0])[12:16], "0000")
@@ -142,21 +153,23 @@ class EachEdge(Case):
         self.assertEqual(self.content("050001")[1][34:50], "0000000000650100")
 
     def test_n_1024_judged_1025_not(self):
-        self.assertEqual(self.answer("05" + "00" * 1023), 10)
-        self.assertEqual(self.answer("63" + "00" * 1023), 8)
-        self.assertEqual(self.answer("63" + "00" * 1023, sent=1), 7)
-        self.assertEqual(self.answer("63" + "00" * 1024), 6)
+        """Edges, 11."""
+        self.assertEqual(self.answer("05" + "00" * 1023), BAD_LENGTH)
+        self.assertEqual(self.answer("63" + "00" * 1023), NOT_OFFERED)
+        self.assertEqual(self.answer("63" + "00" * 1023, sent=1), BAD_CHECKSUM)
+        self.assertEqual(self.answer("63" + "00" * 1024), TOO_LONG)
 
     def test_buffer_4095(self):
-        self.assertEqual(self.feed("06", cap=4095), (4, 0, b""))
-        self.assertEqual(self.feed("06", cap=4096), (2, 1, b""))
-        self.assertEqual(self.box.collect(0, 4095), (4, b""))
-        self.assertEqual(self.box.collect(0, 4096), (0, b""))
+        """Edges, 11."""
+        self.assertEqual(self.feed("06", cap=4095), (SHORT_BUFFER, 0, b""))
+        self.assertEqual(self.feed("06", cap=4096), (KEEP_ALIVE, 1, b""))
+        self.assertEqual(self.box.collect(0, 4095), (SHORT_BUFFER, b""))
+        self.assertEqual(self.box.collect(0, 4096), (WAITING, b""))
 
 
 class ConsoleExample(Case):
     def test_console_example(self):
-        """'For each it prints answer and relays as four digits.'"""
+        """Console, 2 and 6: two digits for the answer, two for the relays."""
         printed = []
         for line in ("010004FFFF0A0A0505", "010004FFFF0A030001", "010003FFFF0A0300", "06"):
             answer = self.feed(line)[0]
@@ -193,13 +206,13 @@ class ReplayPage(unittest.TestCase):
             self.assertEqual(box.line(line), "?", line)
         self.assertEqual(box.line("power " + " ".join(["0"] * 39)), "?")
         self.assertEqual(box.line("power " + " ".join(["0"] * 41)), "?")
-        self.assertEqual(box.line("power 0 0 0 2 " + " ".join(["0"] * 36)), "?", "alarm switch (0 or 1)")
-        self.assertEqual(box.line("bytes 0 4096 " + "06" * 100001), "?", "up to 200,000 digits")
+        self.assertEqual(box.line("power 0 0 0 2 " + " ".join(["0"] * 36)), "?", "no alarm switch is at 2")
+        self.assertEqual(box.line("bytes 0 4096 " + "06" * 100001), "?", "200,000 digits at most")
         self.assertEqual(box.line("bytes 0 4096 " + "06" * 100000), "3 0 0 -")
         self.assertEqual(box.state(), before)
 
     def test_numbers_handed_on(self):
-        """'C, RANK, K and V are handed on as they are, 0 to 255; D 0 to 4294967295.'  CAP '0 to 65536'."""
+        """Every number that fits its type is handed on, those that the box refuses too."""
         box = Box()
         for line, printed in (("open 255 255", "3"), ("open 3 255", "13"), ("close 255", "3"), ("level 255 255", "11"),
                               ("pass 4294967295", "1"), ("pass 0", "1"), ("open 3 2", "1"), ("open 3 255", "12"),
@@ -220,7 +233,7 @@ class ReplayPage(unittest.TestCase):
         return box.state().split(" N ")[1].split(" ")[1]
 
     def test_got(self):
-        """'`got` is how many bytes of a half-read message have been taken (0 to 5 + N - 1).'"""
+        """How many bytes of the unfinished message have been taken: all but its last at most."""
         box = Box()
         box.line("open 1 0")
         for piece, got in (("01", 1), ("00", 2), ("02FF", 4), ("FF", 5), ("06", 6), ("0101", 0)):
@@ -236,7 +249,7 @@ class ReplayPage(unittest.TestCase):
 
 
 class Published(Case):
-    """001: 'CRC Test Strings', its table, its frames."""
+    """001: "CRC Test Strings", its table, its frames."""
 
     def test_crc_test_strings(self):
         self.assertEqual(crc16(b"0123456789"), 0x443D)
@@ -261,33 +274,34 @@ class Published(Case):
     )
 
     def test_frames(self):
-        """Their lengths and checksums are right, their types not offered: 8 and not 7."""
+        """Their lengths and checksums are right, so that it is their types that are refused."""
         for text in self.FRAMES:
             frame = bytes.fromhex(text)
             self.assertEqual(frame, self.box.frame(frame[5:]))
-            self.assertEqual(self.box.bytes_(0, 4096, frame + b"\x06"), (8, len(frame), b""))
+            self.assertEqual(self.box.bytes_(0, 4096, frame + b"\x06"), (NOT_OFFERED, len(frame), b""))
             damaged = frame[:-1] + bytes([frame[-1] ^ 1])
-            self.assertEqual(self.box.bytes_(0, 4096, damaged), (7, len(frame), b""))
+            self.assertEqual(self.box.bytes_(0, 4096, damaged), (BAD_CHECKSUM, len(frame), b""))
 
     def test_frame_with_0xffff(self):
         frame = "01 00 0d ff ff 7e 05 6a 6e 69 6f 72 05 6a 6e 69 6f 72"
-        self.assertEqual(self.feed(frame), (8, 18, b""))
+        self.assertEqual(self.feed(frame), (NOT_OFFERED, 18, b""))
 
     def test_ids(self):
-        """'din1 to din8 are 0x01FF to 0x08FF, rout1 to rout8 are 0x0101FF to 0x0108FF, in steps of 0x100.'"""
+        """Messages, IDs."""
         self.assertEqual(INPUT_IDS, (0x01FF, 0x02FF, 0x03FF, 0x04FF, 0x05FF, 0x06FF, 0x07FF, 0x08FF))
         self.assertEqual(RELAY_IDS, (0x0101FF, 0x0102FF, 0x0103FF, 0x0104FF, 0x0105FF, 0x0106FF, 0x0107FF, 0x0108FF))
 
 
 class BoxAndEvents(Case):
-    """01, 'What the box holds' and 'Events besides bytes'."""
+    """01, What the box holds, and Events."""
 
     def test_power_up(self):
+        """What the box holds, 5."""
         zeros = " ".join(["0,0,0"] * 8), " ".join(["0,0"] * 8), " ".join(["0,0,0,0,0"] * 4)
         self.assertEqual(Box().state(), "C 0 I %s R %s N %s P 0" % zeros)
 
     def test_alarm_state(self):
-        """'Alarm State is 1 when the switch is set and the input is on.'"""
+        """What the box holds, 8."""
         for switch in (0, 1):
             self.power(switch=switch)
             self.assertEqual(self.read(INPUT_IDS[0])[:4], "0000")
@@ -295,11 +309,13 @@ class BoxAndEvents(Case):
             self.assertEqual(self.read(INPUT_IDS[0])[:4], f"010{switch}")
 
     def test_setpoint_0_means_no_alarm(self):
+        """What the box holds, 7."""
         self.box.level(1, 1)
         self.box.pass_(1)
         self.assertEqual(self.read(INPUT_IDS[0]), "0100" + "00000001" + "0000" + "0000000000000001" + "00")
 
     def test_usage_alarm_at_or_above(self):
+        """What the box holds, 10."""
         self.power(usage_setpoint=10, relay_usage_setpoint=10)
         self.box.level(1, 1)
         self.answer("0A010001")
@@ -309,33 +325,35 @@ class BoxAndEvents(Case):
             self.assertEqual(self.read(RELAY_IDS[0])[-2:], alarm)
 
     def test_level(self):
-        """'An event takes no bytes, and a refused one (11 for a bad input or level) changes nothing at all.'"""
+        """Events, 1; Answer numbers, 6: one that is refused leaves everything as it was."""
         before = self.box.state()
         for k, v in ((0, 1), (9, 1), (255, 0), (1, 2), (8, 255)):
-            self.assertEqual(self.box.level(k, v), 11)
+            self.assertEqual(self.box.level(k, v), OUT_OF_RANGE)
         self.assertEqual(self.box.state(), before)
-        self.assertEqual([self.box.level(8, v) for v in (1, 0, 1)], [1, 1, 1])
+        self.assertEqual([self.box.level(8, v) for v in (1, 0, 1)], [SERVED] * 3)
         self.assertEqual(self.count(8), 2)
         self.assertEqual(self.due(), 1)
 
     def test_pass(self):
-        """'The clock, the usage of each input that is on and of each closed relay grow by d.'"""
+        """Events, 2: the clock and the usages of what is on or closed, and of nothing else."""
         self.box.level(2, 1)
         self.answer("0A010003")
-        self.assertEqual(self.box.pass_(TOP32), 1)
-        self.assertEqual(self.box.pass_(5), 1)
+        self.assertEqual(self.box.pass_(TOP32), SERVED)
+        self.assertEqual(self.box.pass_(5), SERVED)
         grown = TOP32 + 5
         self.assertEqual(self.box.clock, grown)
         self.assertEqual([inp.usage for inp in self.box.inputs], [0, grown] + [0] * 6)
         self.assertEqual([relay.usage for relay in self.box.relays], [0, 0, grown] + [0] * 5)
 
     def test_clock_stops(self):
-        self.assertEqual(self.content("07FFFFFFFFFFFFFFFE"), (1, ""))
+        """Events, 2: at its largest number."""
+        self.assertEqual(self.content("07FFFFFFFFFFFFFFFE"), (SERVED, ""))
         for d, clock in ((0, TOP64 - 1), (1, TOP64), (1, TOP64), (TOP32, TOP64)):
             self.box.pass_(d)
             self.assertEqual(self.box.clock, clock)
 
     def test_usage_stops(self):
+        """Events, 2: at its largest number."""
         self.box.level(1, 1)
         self.box.inputs[0].usage = self.box.relays[0].usage = TOP64 - 1
         self.answer("0A010001")
@@ -343,42 +361,43 @@ class BoxAndEvents(Case):
         self.assertEqual((self.box.inputs[0].usage, self.box.relays[0].usage), (TOP64, TOP64))
 
     def test_open_and_close(self):
-        """'Fresh, Monitor on, due if rank is 1 or 2'; 'checked in the order 3, 12, 13'."""
+        """Events, 3 and 4; Answer numbers, 1: the number before the open mark, that before the rank."""
         for rank, due in ((0, 0), (1, 1), (2, 1)):
-            self.assertEqual(self.box.open(1, rank), 1)
+            self.assertEqual(self.box.open(1, rank), SERVED)
             conn = self.box.connections[1]
             self.assertEqual((conn.open, conn.rank, conn.monitor, conn.due), (1, rank, 1, due))
-            self.assertEqual(self.box.open(1, 2), 12)
-            self.assertEqual(self.box.open(1, 3), 12)
-            self.assertEqual(self.box.close(1), 1)
-            self.assertEqual(self.box.close(1), 3)
-            self.assertEqual(self.box.open(1, 3), 13)
-            self.assertEqual(self.box.open(4, 3), 3)
-        self.assertEqual(self.box.close(4), 3)
+            self.assertEqual(self.box.open(1, 2), ALREADY_OPEN)
+            self.assertEqual(self.box.open(1, 3), ALREADY_OPEN)
+            self.assertEqual(self.box.close(1), SERVED)
+            self.assertEqual(self.box.close(1), NO_CONNECTION)
+            self.assertEqual(self.box.open(1, 3), BAD_RANK)
+            self.assertEqual(self.box.open(4, 3), NO_CONNECTION)
+        self.assertEqual(self.box.close(4), NO_CONNECTION)
 
     def test_close_drops_the_half_read_message(self):
+        """Events, 4: the other half then stands at a message start."""
         self.feed("010004FFFF0A01")
         self.box.close(0)
         self.box.open(0, 2)
-        self.assertEqual(self.feed("0001"), (5, 1, b""))
+        self.assertEqual(self.feed("0001"), (STRAY, 1, b""))
 
     def test_collect(self):
-        """'Several changes before one collection give one message, with the state at collection.'"""
+        """Events, 5 and 7: one message for all that changed, and it shows what is so now."""
         self.box.level(1, 1)
         self.box.pass_(3)
         self.box.level(1, 0)
         self.box.pass_(4)
         answer, reply = self.box.collect(0, 4096)
-        self.assertEqual(answer, 1)
+        self.assertEqual(answer, SERVED)
         self.assertEqual(reply[5:], self.box.monitor_content())
         self.assertEqual(reply[22:30].hex(), "0000000000010000")
         self.assertEqual(reply[-1], 7)
-        self.assertEqual(self.box.collect(0, 4096), (0, b""))
-        self.assertEqual(self.box.collect(1, 4096), (3, b""))
-        self.assertEqual(self.box.collect(1, 0), (3, b""))
+        self.assertEqual(self.box.collect(0, 4096), (WAITING, b""))
+        self.assertEqual(self.box.collect(1, 4096), (NO_CONNECTION, b""))
+        self.assertEqual(self.box.collect(1, 0), (NO_CONNECTION, b""))
 
     def test_due_marks(self):
-        """'Due on each open connection of rank 1 or 2 that has it on, the sender included.'"""
+        """Events, 6: rank 0, Monitor off and a shut connection are left out, who sent the command is not."""
         for c, rank in ((1, 1), (2, 0), (3, 2)):
             self.box.open(c, rank)
             self.box.collect(c, 4096)
@@ -390,102 +409,111 @@ class BoxAndEvents(Case):
         self.assertEqual([self.due(c) for c in range(4)], [1, 0, 0, 0])
 
     def test_close_and_then_open_makes_due(self):
+        """Events, 8."""
         self.assertEqual(self.write((RELAY_IDS[0], "0101"), (RELAY_IDS[0], "0100")), 2)
         self.assertEqual((self.relays(), self.due()), ("00000000", 1))
 
     def test_no_change_no_mark(self):
+        """Events, 6: neither what was so already nor a count, a usage or the clock."""
         for content in ("0A020001", "0A050001", "0A080001", "0A090001", "0A0AFF00", "0700000000000000AA"):
-            self.assertEqual(self.content(content), (1, ""))
+            self.assertEqual(self.content(content), (SERVED, ""))
         self.write((RELAY_IDS[0], "0100"), (RELAY_IDS[0], "02"), (INPUT_IDS[0], "0700000001"), (RELAY_IDS[0], "0102"))
         self.assertEqual(self.due(), 0)
 
 
 class FrameRules(Case):
-    """01, 'Frame', 'Answer numbers' and 'Mistakes that invite'."""
+    """01, Frame, Answer numbers and Mistakes."""
 
     def test_starts(self):
-        """'0x06 is a keep-alive, any other byte is stray.'"""
+        """Frame, 7: what each byte is at a message start."""
         for byte in range(256):
-            answer = {1: 0, 6: 2}.get(byte, 5)
+            answer = {0x01: WAITING, 0x06: KEEP_ALIVE}.get(byte, STRAY)
             self.box.open(1, 0)
             self.assertEqual(self.box.bytes_(1, 4096, bytes([byte, 6])), (answer, 2 if byte == 1 else 1, b""))
             self.box.close(1)
 
-    def test_inside_a_frame_no_byte_has_such_a_meaning(self):
+    def test_nothing_begins_inside_a_frame(self):
+        """Frame, 8; Mistakes, 4."""
         for byte in bytes.fromhex("010004FFFF0A0A06"):
-            self.assertEqual(self.box.bytes_(0, 4096, bytes([byte])), (0, 1, b""))
-        self.assertEqual(self.feed("06"), (1, 1, b""))
+            self.assertEqual(self.box.bytes_(0, 4096, bytes([byte])), (WAITING, 1, b""))
+        self.assertEqual(self.feed("06"), (SERVED, 1, b""))
         self.assertEqual(self.relays(), "00000110")
 
     def test_checksum_at_the_last_byte(self):
-        """'A checksum judged before the last byte is in' is a mistake."""
-        self.assertEqual(self.feed("0100031234050000"[:-2]), (0, 7, b""))
-        self.assertEqual(self.feed("00"), (7, 1, b""))
+        """Mistakes, 1: not before."""
+        self.assertEqual(self.feed("0100031234050000"[:-2]), (WAITING, 7, b""))
+        self.assertEqual(self.feed("00"), (BAD_CHECKSUM, 1, b""))
 
     def test_n_0(self):
-        """Checksum of nothing, 0, is judged first."""
-        self.assertEqual(self.feed("0100000001"), (7, 5, b""))
-        self.assertEqual(self.feed("0100000000"), (8, 5, b""))
+        """Answer numbers, 1: the checksum of nothing, which is 0, is judged before the type."""
+        self.assertEqual(self.feed("0100000001"), (BAD_CHECKSUM, 5, b""))
+        self.assertEqual(self.feed("0100000000"), (NOT_OFFERED, 5, b""))
 
     def test_two_half_read_messages(self):
+        """Mistakes, 1: each connection has its own."""
         self.box.open(1, 1)
-        self.assertEqual(self.feed("010004FFFF0A01", 0), (0, 7, b""))
-        self.assertEqual(self.feed("010004FFFF0A0A", 1), (0, 7, b""))
-        self.assertEqual(self.feed("0002", 0), (1, 2, b""))
-        self.assertEqual(self.feed("F0F0", 1), (1, 2, b""))
+        self.assertEqual(self.feed("010004FFFF0A01", 0), (WAITING, 7, b""))
+        self.assertEqual(self.feed("010004FFFF0A0A", 1), (WAITING, 7, b""))
+        self.assertEqual(self.feed("0002", 0), (SERVED, 2, b""))
+        self.assertEqual(self.feed("F0F0", 1), (SERVED, 2, b""))
         self.assertEqual(self.relays(), "11110010")
 
     def test_taken_through_the_end(self):
-        self.assertEqual(self.feed("010004FFFF0A01000106"), (1, 9, b""))
-        self.assertEqual(self.feed(""), (0, 0, b""))
-        self.assertEqual(self.feed("", cap=4095), (4, 0, b""))
-        self.assertEqual(self.feed("", 1, 0), (3, 0, b""))
+        """Frame, 11."""
+        self.assertEqual(self.feed("010004FFFF0A01000106"), (SERVED, 9, b""))
+        self.assertEqual(self.feed(""), (WAITING, 0, b""))
+        self.assertEqual(self.feed("", cap=4095), (SHORT_BUFFER, 0, b""))
+        self.assertEqual(self.feed("", 1, 0), (NO_CONNECTION, 0, b""))
 
     def test_above_the_limit(self):
-        """'The N bytes are swallowed, none judged, and the answer comes at the last of them.'"""
+        """Frame, 12: nothing is said before the last byte, and rank and checksum do not matter."""
         self.box.open(1, 0)
         for c in (0, 1):
-            self.assertEqual(self.feed("01FFFF0000", c), (0, 5, b""))
-            self.assertEqual(self.feed("01" * 65534, c), (0, 65534, b""))
-            self.assertEqual(self.feed("0606", c), (6, 1, b""))
-            self.assertEqual(self.feed("06", c), (2, 1, b""))
+            self.assertEqual(self.feed("01FFFF0000", c), (WAITING, 5, b""))
+            self.assertEqual(self.feed("01" * 65534, c), (WAITING, 65534, b""))
+            self.assertEqual(self.feed("0606", c), (TOO_LONG, 1, b""))
+            self.assertEqual(self.feed("06", c), (KEEP_ALIVE, 1, b""))
 
     def test_refused_clears_the_half_read_message(self):
-        for message, answer in (("0100031234050000", 7), ("010001FFFF63", 8), ("010001FFFF05", 10), ("010003FFFF050003", 11)):
+        """Answer numbers, lines 7 to 11."""
+        for message, answer in (("0100031234050000", BAD_CHECKSUM), ("010001FFFF63", NOT_OFFERED), ("010001FFFF05", BAD_LENGTH),
+                                ("010003FFFF050003", OUT_OF_RANGE)):
             self.assertEqual(self.feed(message), (answer, len(message) // 2, b""))
             self.assertEqual(self.box.got(self.box.connections[0]), 0)
 
     def test_order_of_checks(self):
+        """Answer numbers, 1."""
         self.box.open(1, 0)
         self.box.open(2, 1)
-        self.assertEqual(self.feed("05", 4, 0), (3, 0, b""))
-        self.assertEqual(self.feed("05", 3, 0), (3, 0, b""))
-        self.assertEqual(self.feed("05", 0, 0), (4, 0, b""))
-        self.assertEqual(self.answer("63", 1, sent=1), 7)
-        self.assertEqual(self.answer("63", 1), 8)
-        self.assertEqual(self.answer("05", 1), 9)
-        self.assertEqual(self.answer("07", 2), 9)
-        self.assertEqual(self.answer("07", 0), 10)
-        self.assertEqual(self.answer("1A", 0), 10)
-        self.assertEqual(self.answer("1A0000", 0), 10)
-        self.assertEqual(self.answer("1A00", 0), 11)
+        self.assertEqual(self.feed("05", 4, 0), (NO_CONNECTION, 0, b""))
+        self.assertEqual(self.feed("05", 3, 0), (NO_CONNECTION, 0, b""))
+        self.assertEqual(self.feed("05", 0, 0), (SHORT_BUFFER, 0, b""))
+        self.assertEqual(self.answer("63", 1, sent=1), BAD_CHECKSUM)
+        self.assertEqual(self.answer("63", 1), NOT_OFFERED)
+        self.assertEqual(self.answer("05", 1), LOW_RANK)
+        self.assertEqual(self.answer("07", 2), LOW_RANK)
+        self.assertEqual(self.answer("07", 0), BAD_LENGTH)
+        self.assertEqual(self.answer("1A", 0), BAD_LENGTH)
+        self.assertEqual(self.answer("1A0000", 0), BAD_LENGTH)
+        self.assertEqual(self.answer("1A00", 0), OUT_OF_RANGE)
 
     def test_types(self):
-        """Offered: 5, 7, 10, 21, 23, 26.  All others, 1 included: 8."""
+        """Six are offered; the others, Monitor among them (Messages, 1, 2), are not."""
         for kind in range(256):
             answer = self.answer(f"{kind:02X}")
-            self.assertEqual(answer, 10 if kind in (5, 7, 10, 21, 23, 26) else 8, kind)
+            self.assertEqual(answer, BAD_LENGTH if kind in (5, 7, 10, 21, 23, 26) else NOT_OFFERED, kind)
 
 
 class Messages(Case):
-    """01, 'Messages offered'."""
+    """01, Messages."""
 
     def test_request_0(self):
+        """Messages, 5, 2."""
         self.box.pass_(258)
-        self.assertEqual(self.content("050000"), (1, "060000000000000102"))
+        self.assertEqual(self.content("050000"), (SERVED, "060000000000000102"))
 
     def test_request_1(self):
-        """'97 bytes'; 'leaves the due mark'."""
+        """Messages, 5, 3, and 1, 1."""
         self.box.level(1, 1)
         self.answer("0A010008")
         self.box.pass_(1)
@@ -496,7 +524,7 @@ class Messages(Case):
         self.assertEqual(self.due(), 1)
 
     def test_request_2(self):
-        """'16 usages, inputs then relays, then clock, 137 bytes.'"""
+        """Messages, 5, 4."""
         self.box.level(1, 1)
         self.answer("0A010001")
         self.box.pass_(1)
@@ -506,58 +534,60 @@ class Messages(Case):
         self.assertEqual(len(reply) // 2, 137)
 
     def test_requests_4_and_5(self):
+        """Messages, 5, 5."""
         self.box.level(1, 1)
-        self.assertEqual(self.content("050005"), (1, ""))
+        self.assertEqual(self.content("050005"), (SERVED, ""))
         self.assertEqual(self.due(), 1, "5 leaves the due mark")
-        self.assertEqual(self.content("050004"), (1, ""))
+        self.assertEqual(self.content("050004"), (SERVED, ""))
         self.assertEqual(self.due(), 0)
         self.box.level(1, 0)
         self.assertEqual(self.due(), 0)
-        self.assertEqual(self.content("050005"), (1, ""))
+        self.assertEqual(self.content("050005"), (SERVED, ""))
         self.assertEqual(self.due(), 0)
         self.box.level(1, 1)
         self.assertEqual(self.due(), 1)
 
     def test_other_requests(self):
-        """'Others, 3 included: 11'; judged 'as soon as the content holds it, before the length'."""
+        """Messages, 5, 6; Answer numbers, 2: a request that is there whole is judged before the length."""
         for content in ("050003", "050006", "050100", "05FFFF", "05000300", "0500030000000000"):
-            self.assertEqual(self.answer(content), 11, content)
+            self.assertEqual(self.answer(content), OUT_OF_RANGE, content)
         for content in ("05", "0500", "05000000", "0500000000000000"):
-            self.assertEqual(self.answer(content), 10, content)
+            self.assertEqual(self.answer(content), BAD_LENGTH, content)
 
     def test_set_clock(self):
-        """'8 bytes after the type, any number.'  A clock setting changes no usage."""
+        """Messages, 7, 1; Mistakes, 3: no usage changes with it."""
         self.box.level(1, 1)
         self.box.pass_(5)
-        self.assertEqual(self.content("07FFFFFFFFFFFFFFFF"), (1, ""))
+        self.assertEqual(self.content("07FFFFFFFFFFFFFFFF"), (SERVED, ""))
         self.assertEqual((self.box.clock, self.box.inputs[0].usage), (TOP64, 5))
         for content in ("0700000000000000", "07000000000000000000"):
-            self.assertEqual(self.answer(content), 10)
+            self.assertEqual(self.answer(content), BAD_LENGTH)
         self.assertEqual(self.box.clock, TOP64)
 
     def test_commands(self):
+        """Messages, 10, 2."""
         for content, relays in (("0A010003", "00000100"), ("0A010003", "00000100"), ("0A030003", "00000000"),
                                 ("0A030003", "00000100"), ("0A020003", "00000000")):
-            self.assertEqual(self.content(content), (1, ""))
+            self.assertEqual(self.content(content), (SERVED, ""))
             self.assertEqual(self.relays(), relays)
         self.box.level(3, 1)
         self.answer("0A010003")
         self.box.pass_(9)
         for content, left in (("0A050003", (0, 9, 9)), ("0A080003", (0, 0, 9)), ("0A090003", (0, 0, 0))):
-            self.assertEqual(self.content(content), (1, ""))
+            self.assertEqual(self.content(content), (SERVED, ""))
             self.assertEqual((self.count(3), self.box.inputs[2].usage, self.box.relays[2].usage), left)
 
     def test_bad_commands(self):
-        """'Actions 4, 6, 7: 11', of which M-100 leaves 4, before the length; '4 bytes in all'; then the channel."""
+        """Messages, 10, 4, of whose actions M-100 leaves the first; Answer numbers, 2: action, length, then channel."""
         for content in ("0A04", "0A00", "0A0B", "0AFF", "0A040001", "0A04000100000001", "0A010000", "0A010009", "0A010101",
                         "0A01FFFF"):
-            self.assertEqual(self.answer(content), 11, content)
+            self.assertEqual(self.answer(content), OUT_OF_RANGE, content)
         for content in ("0A", "0A01", "0A0100", "0A01000100", "0A010000FF", "0A0AFF", "0A0A00FF00FF"):
-            self.assertEqual(self.answer(content), 10, content)
+            self.assertEqual(self.answer(content), BAD_LENGTH, content)
         self.assertEqual(self.relays(), "00000000")
 
     def test_read_devices(self):
-        """'In the order asked'; 'an unknown ID has length 0; a repeated one is reported again'."""
+        """Messages, 21: in the order asked, unknown and repeated IDs too."""
         self.power(setpoint1=1, usage_setpoint=2, switch=1)
         self.write((INPUT_IDS[0], "0200000001"))
         self.box.level(1, 1)
@@ -568,41 +598,43 @@ class Messages(Case):
         self.assertEqual((len(block) // 2, len(relay) // 2), (17, 10))
         one, two, none = "00000000000001FF", "00000000000101FF", "00000000000009FF"
         self.assertEqual(self.content("150004" + two + none + one + two),
-                         (1, "160004" + two + "000A" + relay + none + "0000" + one + "0011" + block + two + "000A" + relay))
-        self.assertEqual(self.content("150000"), (1, "160000"))
+                         (SERVED, "160004" + two + "000A" + relay + none + "0000" + one + "0011" + block + two + "000A" + relay))
+        self.assertEqual(self.content("150000"), (SERVED, "160000"))
         for content in ("15", "1500", "150001", "150000" + one, "150001" + one + "00", "150001" + one[2:], "150002" + one):
-            self.assertEqual(self.answer(content), 10, content)
+            self.assertEqual(self.answer(content), BAD_LENGTH, content)
 
     def test_longest_reply(self):
-        """'The longest reply is 3,437.'"""
+        """Frame, 15."""
         answer, taken, reply = self.box.bytes_(0, 4096, traces.framed(b"\x15\x00\x7F" + field(INPUT_IDS[0], 8) * 127))
-        self.assertEqual((answer, taken, len(reply)), (1, 5 + 3 + 127 * 8, 3437))
+        self.assertEqual((answer, taken, len(reply)), (SERVED, 5 + 3 + 127 * 8, 3437))
 
     def test_write_devices(self):
-        """'One fails alone, changing nothing'; '24, then the number written'."""
+        """Messages, 23, 3 and 6; Mistakes, 2 and 5: a bad entry neither undoes the ones before it nor stops the next."""
         self.assertEqual(self.write((INPUT_IDS[0], "0280000000"), (RELAY_IDS[1], "0101"), (INPUT_IDS[1], "0800000001"),
                                     (INPUT_IDS[2], "0200000005")), 3)
         self.assertEqual([self.count(k) for k in (1, 2, 3)], [0x80000000, 0, 5])
         self.assertEqual(self.relays(), "00000010")
-        self.assertEqual(self.content("170000"), (1, "180000"))
+        self.assertEqual(self.content("170000"), (SERVED, "180000"))
 
     def test_write_must_fit(self):
-        """'The whole message must fit exactly, else 10 and nothing is written.'"""
+        """Messages, 23, 2: where the last entry does not fit, the first is not written either."""
         entry = "00000000000101FF00020101"
         for content in ("17", "1700", "170001", "170000" + entry, "170001" + entry + "00", "170002" + entry,
                         "170001" + entry[:-2], "170002" + entry + entry[:-2], "170002" + entry + "00000000000101FFFFFF0101"):
-            self.assertEqual(self.answer(content), 10, content)
+            self.assertEqual(self.answer(content), BAD_LENGTH, content)
         self.assertEqual(self.relays(), "00000000")
-        self.assertEqual(self.answer("170001" + entry), 1)
+        self.assertEqual(self.answer("170001" + entry), SERVED)
         self.assertEqual(self.relays(), "00000001")
 
     def test_input_entries(self):
+        """Messages, 23, 3 and 4."""
         for block, written in (("", 0), ("00", 1), ("01", 1), ("02", 0), ("03", 0), ("04", 1), ("05", 1), ("06", 0), ("07", 0),
                                ("08", 0), ("80", 0), ("FF", 0), ("0200", 0), ("020000", 0), ("02000000", 0), ("0000000001", 1),
                                ("0100000001", 1), ("0700000001", 1), ("0800000001", 0), ("0A00000001", 0), ("020000000100", 0)):
             self.assertEqual(self.write((INPUT_IDS[4], block)), written, block)
 
     def test_input_flags(self):
+        """Messages, 23, 4."""
         for flags, left in (("00", (9, 9)), ("01", (0, 9)), ("02", (5, 9)), ("03", (5, 9)), ("04", (9, 0)), ("05", (0, 0)),
                             ("06", (5, 0)), ("07", (5, 0)), ("0C", (9, 9))):
             inp = self.box.inputs[4]
@@ -611,7 +643,7 @@ class Messages(Case):
             self.assertEqual((inp.count, inp.usage), left, flags)
 
     def test_relay_entries(self):
-        """A state byte whose flag is not set is read and not used."""
+        """Messages, 23, 3 and 5.  A state byte whose flag is not set is read and not used."""
         relay = self.box.relays[7]
         for block, written, left in (("", 0, (0, 9)), ("00", 1, (0, 9)), ("01", 0, (0, 9)), ("02", 1, (0, 0)), ("03", 0, (0, 9)),
                                      ("0002", 1, (0, 9)), ("0001", 1, (0, 9)), ("0101", 1, (1, 9)), ("0102", 0, (0, 9)),
@@ -622,17 +654,17 @@ class Messages(Case):
             self.assertEqual((relay.state, relay.usage), left, block)
 
     def test_enumerate_devices(self):
-        """'Answer 27: flags, count, IDs, inputs before relays, rising.  Flag 2 alone finds none.'"""
+        """Messages, 26."""
         ids = "".join(f"{0x01FF + 0x100 * k:016X}" for k in range(8)) + "".join(f"{0x0101FF + 0x100 * k:016X}" for k in range(8))
-        self.assertEqual(self.content("1A01"), (1, "1B010010" + ids))
-        self.assertEqual(self.content("1A02"), (1, "1B020000"))
-        self.assertEqual(self.content("1A03"), (1, "1B030010" + ids))
+        self.assertEqual(self.content("1A01"), (SERVED, "1B010010" + ids))
+        self.assertEqual(self.content("1A02"), (SERVED, "1B020000"))
+        self.assertEqual(self.content("1A03"), (SERVED, "1B030010" + ids))
         for content in ("1A00", "1A04", "1A81", "1AFF"):
-            self.assertEqual(self.answer(content), 11)
+            self.assertEqual(self.answer(content), OUT_OF_RANGE)
 
 
 class Pulses(Case):
-    """02, M-100.  Layouts: 001, 'Command Message'."""
+    """02, M-100.  Layouts: 001, "Command Message"."""
 
     def pulse(self, channel, duration, c=0):
         """Action 6."""
@@ -644,7 +676,7 @@ class Pulses(Case):
 
     def fill(self):
         """31 pulses of relay 1, of one ms each."""
-        self.assertEqual([self.pulse(1, 1) for _ in range(31)], [1] * 31)
+        self.assertEqual([self.pulse(1, 1) for _ in range(31)], [SERVED] * 31)
 
     def usages(self, *channels):
         return [self.box.relays[k - 1].usage for k in channels]
@@ -659,7 +691,7 @@ class Pulses(Case):
 
     def test_five_ms_are_five_of_usage(self):
         """In the fifth ms usage grows while the relay is still closed; only then does the pulse end."""
-        self.assertEqual(self.content("0A06000100000005"), (1, ""))
+        self.assertEqual(self.content("0A06000100000005"), (SERVED, ""))
         self.assertEqual((self.relays(), self.due(), self.usages(1)), ("00000001", 1, [0]))
         self.collected()
         self.box.pass_(4)
@@ -671,7 +703,7 @@ class Pulses(Case):
 
     def test_duration_is_big_endian_and_four_bytes_wide(self):
         for duration in (0x100, 0x01000000, 0x80000000, TOP32):
-            self.assertEqual(self.pulse(1, duration), 1)
+            self.assertEqual(self.pulse(1, duration), SERVED)
             self.box.pass_(duration - 1)
             self.assertEqual(self.relays(), "00000001")
             self.box.pass_(1)
@@ -683,13 +715,13 @@ class Pulses(Case):
         self.answer("0A0A0302")
         self.assertEqual(self.relays(), "00000010")
         self.answer("0A010001")
-        self.assertEqual(self.block(0b10000001, 0b11111110, 3), 1)
+        self.assertEqual(self.block(0b10000001, 0b11111110, 3), SERVED)
         self.assertEqual(self.relays(), "10000010")
         self.box.pass_(3)
         self.assertEqual(self.relays(), "00000011")
 
     def test_pulse_of_channel_8(self):
-        self.assertEqual(self.pulse(8, 1), 1)
+        self.assertEqual(self.pulse(8, 1), SERVED)
         self.assertEqual(self.relays(), "10000000")
 
     def test_a_closed_relay_pulsed_stays_closed(self):
@@ -705,7 +737,7 @@ class Pulses(Case):
         self.pulse(1, 1)
         self.pulse(2, 1)
         before = self.box.state()
-        self.assertEqual(self.box.pass_(0), 1)
+        self.assertEqual(self.box.pass_(0), SERVED)
         self.assertEqual(self.box.state(), before)
 
     # -- one behind the other ----------------------------------------------------------------------
@@ -781,7 +813,7 @@ class Pulses(Case):
     def test_many_end_in_one_pass(self):
         """31 pulses by turns of relays 1 and 2, of 1 to 31 ms, 496 ms in all: relay 1 has the odd durations, 256 ms."""
         for n in range(1, 32):
-            self.assertEqual(self.pulse(1 if n % 2 else 2, n), 1)
+            self.assertEqual(self.pulse(1 if n % 2 else 2, n), SERVED)
         self.box.pass_(495)
         self.assertEqual((self.relays(), self.usages(1, 2), self.queue()), ("00000001", [255, 240], "1 1,1,1 was 0"))
         self.box.pass_(1)
@@ -796,7 +828,7 @@ class Pulses(Case):
             self.power()
             self.block(0b00000001, 0, 5)
             self.box.pass_(2)
-            self.assertEqual(self.answer(closing), 1)
+            self.assertEqual(self.answer(closing), SERVED)
             self.assertEqual((self.relays(), self.queue()), ("00000001", "1 1,0,3 was 0"))
             self.collected()
             self.box.pass_(2)
@@ -866,25 +898,25 @@ class Pulses(Case):
         """The running one is one of the 31.  Each end makes one place free, and one only."""
         self.fill()
         before = self.box.state()
-        self.assertEqual((self.pulse(1, 1), self.block(0, 0, 1)), (14, 14))
+        self.assertEqual((self.pulse(1, 1), self.block(0, 0, 1)), (QUEUE_FULL, QUEUE_FULL))
         self.assertEqual(self.box.state(), before)
         self.box.pass_(1)
-        self.assertEqual([self.pulse(1, 1) for _ in range(2)], [1, 14])
+        self.assertEqual([self.pulse(1, 1) for _ in range(2)], [SERVED, QUEUE_FULL])
         self.box.pass_(3)
-        self.assertEqual([self.pulse(1, 1) for _ in range(4)], [1, 1, 1, 14])
+        self.assertEqual([self.pulse(1, 1) for _ in range(4)], [SERVED] * 3 + [QUEUE_FULL])
 
     def test_places_are_used_again_and_again(self):
         """100 pulses one after the other, and a full queue all through: each adds its ms of usage."""
         self.fill()
         for _ in range(100):
             self.box.pass_(1)
-            self.assertEqual((self.pulse(1, 1), self.pulse(1, 1)), (1, 14))
+            self.assertEqual((self.pulse(1, 1), self.pulse(1, 1)), (SERVED, QUEUE_FULL))
         self.box.pass_(31)
         self.assertEqual((self.usages(1), self.queue()), ([131], "0"))
 
     def test_mask_0_holds_the_queue_for_its_time(self):
         """It changes nothing and marks nobody, but has its place and its 4 ms."""
-        self.assertEqual(self.content("0A0700FF00000004"), (1, ""))
+        self.assertEqual(self.content("0A0700FF00000004"), (SERVED, ""))
         self.pulse(1, 2)
         self.assertEqual((self.relays(), self.due(), self.queue()), ("00000000", 0, "2 0,0,4 1,1,2 was 0"))
         self.box.pass_(3)
@@ -893,62 +925,63 @@ class Pulses(Case):
         self.assertEqual((self.relays(), self.due(), self.queue()), ("00000001", 1, "1 1,1,2 was 0"))
 
     def test_pulses_of_mask_0_fill_it_too(self):
-        self.assertEqual([self.block(0, 0, 1) for _ in range(32)], [1] * 31 + [14])
+        self.assertEqual([self.block(0, 0, 1) for _ in range(32)], [SERVED] * 31 + [QUEUE_FULL])
 
     # -- refusals ----------------------------------------------------------------------------------
 
     def test_order_of_refusals(self):
-        """11 for the action, 10, 11 for the channel, 11 for duration 0, then 14: with room in the queue and without."""
-        for fill, right in ((False, 1), (True, 14)):
+        """The action, the length, the channel, the duration, then the queue: with room in it and without."""
+        refused = ((OUT_OF_RANGE, ("0A04", "0A0400010000000100", "0A06000900000001", "0A06000000000001", "0A06010100000001",
+                                   "0A06FFFF00000001", "0A06000100000000", "0A06000900000000", "0A07FFFF00000000",
+                                   "0A07000000000000")),
+                   (BAD_LENGTH, ("0A06", "0A07", "0A060001", "0A060001000000", "0A060009000000", "0A0600010000000000",
+                                 "0A0600090000000100", "0A07FFFF000000", "0A07FFFF0000000100", "0A0700FF00FF00000001")))
+        for fill, right in ((False, SERVED), (True, QUEUE_FULL)):
             if fill:
                 self.power()
                 self.fill()
-            for content, answer in (("0A04", 11), ("0A0400010000000100", 11), ("0A06", 10), ("0A07", 10), ("0A060001", 10),
-                                    ("0A06000900000001", 11), ("0A06000000000001", 11), ("0A06010100000001", 11),
-                                    ("0A06FFFF00000001", 11), ("0A06000100000000", 11), ("0A06000900000000", 11),
-                                    ("0A07FFFF00000000", 11), ("0A07000000000000", 11), ("0A060001000000", 10),
-                                    ("0A060009000000", 10), ("0A0600010000000000", 10), ("0A0600090000000100", 10),
-                                    ("0A07FFFF000000", 10), ("0A07FFFF0000000100", 10), ("0A0700FF00FF00000001", 10)):
+            for content, answer in [(content, answer) for answer, contents in refused for content in contents]:
                 before = self.box.state()
                 self.assertEqual(self.content(content), (answer, ""), content)
                 self.assertEqual(self.box.state(), before)
             self.assertEqual((self.pulse(1, 1), self.block(0xFF, 0, 1)), (right, right))
 
     def test_rank(self):
-        """'Rank 1 is needed for all', judged before all of these."""
+        """Messages, 1: users and administrators alone; judged before all of these."""
         self.box.open(1, 0)
         self.box.open(2, 1)
         for content in ("0A06000100000001", "0A06000900000000", "0A06", "0A07FFFF00000001"):
-            self.assertEqual(self.answer(content, 1), 9)
-        self.assertEqual(self.pulse(1, 1, 2), 1)
+            self.assertEqual(self.answer(content, 1), LOW_RANK)
+        self.assertEqual(self.pulse(1, 1, 2), SERVED)
 
     # -- the lent row ------------------------------------------------------------------------------
 
     def test_rows_for_time(self):
-        """Under 31 records: 4, and no ms has passed, d = 0 included."""
+        """M-100, 5: refused under 31 records, and no ms has passed, d = 0 included."""
         self.pulse(1, 5)
         before = self.box.state()
         for row in (0, 1, 30):
-            self.assertEqual((self.box.pass_(1, row), self.box.pass_(0, row), self.box.pass_by_ms(1, row)), (4, 4, 4))
+            self.assertEqual((self.box.pass_(1, row), self.box.pass_(0, row), self.box.pass_by_ms(1, row)),
+                             (SHORT_BUFFER,) * 3)
         self.assertEqual(self.box.state(), before)
         for row in (31, 32, 64):
-            self.assertEqual(self.box.pass_(1, row), 1)
+            self.assertEqual(self.box.pass_(1, row), SERVED)
         self.assertEqual(self.usages(1), [3])
 
     def test_rows_for_bytes(self):
-        """3 before 4; at 4 no byte is taken, whatever the piece holds."""
+        """M-100, 5: behind the connection; of a piece that finds the row short no byte is taken, whatever it holds."""
         message = bytes.fromhex("010008FFFF0A06000100000005")
         before = self.box.state()
         for row in (0, 1, 30):
             for piece in (message, message[:3], b"\x06", b"\x00", b""):
-                self.assertEqual(self.box.bytes_(0, 4096, piece, row), (4, 0, b""))
-                self.assertEqual(self.box.bytes_(0, 4095, piece, row), (4, 0, b""))
-                self.assertEqual(self.box.bytes_(1, 4096, piece, row), (3, 0, b""))
-                self.assertEqual(self.box.bytes_(4, 0, piece, row), (3, 0, b""))
+                self.assertEqual(self.box.bytes_(0, 4096, piece, row), (SHORT_BUFFER, 0, b""))
+                self.assertEqual(self.box.bytes_(0, 4095, piece, row), (SHORT_BUFFER, 0, b""))
+                self.assertEqual(self.box.bytes_(1, 4096, piece, row), (NO_CONNECTION, 0, b""))
+                self.assertEqual(self.box.bytes_(4, 0, piece, row), (NO_CONNECTION, 0, b""))
         self.assertEqual(self.box.state(), before)
         for row in (31, 32, 64):
-            self.assertEqual(self.box.bytes_(0, 4095, message, row), (4, 0, b""))
-            self.assertEqual(self.box.bytes_(0, 4096, message, row), (1, 13, b""))
+            self.assertEqual(self.box.bytes_(0, 4095, message, row), (SHORT_BUFFER, 0, b""))
+            self.assertEqual(self.box.bytes_(0, 4096, message, row), (SERVED, 13, b""))
         self.assertEqual(self.queue(), "3 1,1,5 1,1,5 1,1,5 was 0")
 
     def test_rows_in_replay_lines(self):
@@ -973,12 +1006,12 @@ class Pulses(Case):
 
 
 class TimeByTheMs(unittest.TestCase):
-    """M-100: d ms are d times one.  The model takes several in one step; here it is held to one at a time."""
+    """M-100, 4: d ms are d times one.  The model takes several in one step; here it is held to one at a time."""
 
     RUNS = 150
 
     class ByMs(Box):
-        def pass_(self, d, row=31):
+        def pass_(self, d, row=PULSES):
             return self.pass_by_ms(d, row)
 
     CONTENTS = ("0A01000{k}", "0A02000{k}", "0A03000{k}", "0A09000{k}", "0A0A{a:02X}{b:02X}", "07{top:016X}",
@@ -1034,7 +1067,7 @@ class TimeByTheMs(unittest.TestCase):
         ends = {0: 0, 1: 0, 2: 0}
 
         class Counting(Box):
-            def pass_(self, d, row=31):
+            def pass_(self, d, row=PULSES):
                 stood = len(self.queue)
                 answer = super().pass_(d, row)
                 if stood:

@@ -18,7 +18,8 @@ import threading
 import time
 import unittest
 
-from boxd import Boxd, Client, MONITOR, PATIENCE, PROGRAM, Program, ROOT, frame, pulse
+from answers import QUEUE_FULL
+from boxd import Boxd, Client, MONITOR, PATIENCE, PROGRAM, Program, ROOT, frame, pulse, refused
 from model import Box, RELAY_IDS, field, number
 
 sys.path.insert(0, os.path.join(ROOT, "host"))
@@ -182,9 +183,9 @@ class Case(unittest.TestCase):
                 self.assertEqual(status, 409)
                 self.assertIn("31 pulses stand in the queue: the box takes no more", said)
             self.assertEqual(panel.state()["standing"], 31)
-            host.wait_for(r"refused \(14\): 31 pulses stand in the queue")
+            host.wait_for(refused(QUEUE_FULL) + ": 31 pulses stand in the queue")
             host.quit()
-        self.assertEqual(host.count(r"refused \(14\)"), 2)
+        self.assertEqual(host.count(refused(QUEUE_FULL)), 2)
         self.assertEqual(host.count("relay 7"), 0)
 
     def test_pulses_that_are_none(self):
