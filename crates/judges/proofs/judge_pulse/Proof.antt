@@ -1,11 +1,11 @@
--- `layouts::judge_pulse`: by the tests on the action.
+-- `judges::judge_pulse`: by the tests on the action.
 use mathlib.Core.Path.{_∙_}
 use borrow.Author.Needs.{needs}
 use borrow.Author.Tests.{eq-eqb, ne-eqb}
 use Rattle.laws.proofs.Tests.{tests}
-use Rattle.layouts.specs.Layouts.{judgePulse}
-use Rattle.layouts.proofs.judge_pulse.Statement.{statement}
-use Rattle.layouts.proofs.judge_pulse.Tie as tie
+use Rattle.judges.specs.Judges.{judgePulse}
+use Rattle.judges.proofs.judge_pulse.Statement.{statement}
+use Rattle.judges.proofs.judge_pulse.Tie as tie
 
 pub judge-pulse-spec : {M : Type 1} → statement M
 unfolding judgePulse
