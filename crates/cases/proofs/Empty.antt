@@ -19,7 +19,7 @@ use Rattle.words.specs.Words.{fits, numberAt}
 use Rattle.framing.specs.Cut.{need, whole, cuts, messages, seen}
 use Rattle.framing.specs.Reading.{start}
 use Rattle.changes.specs.Answers.{onRelay}
-use Rattle.layouts.specs.Layouts.{onChannel, judgeCommand}
+use Rattle.judges.specs.Judges.{onChannel, judgeCommand}
 use Rattle.orders.specs.Orders.{commandOf, orderOf}
 use Rattle.replies.specs.Replies.{relaysOf}
 use Rattle.readings.specs.Readings.{monitorReply}

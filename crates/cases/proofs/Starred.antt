@@ -15,7 +15,7 @@ use Rattle.changes.specs.Commands.{masked, blockedRow, blockOf}
 use Rattle.tables.specs.Devices.{idOf, firstWith, deviceOf}
 use Rattle.changes.specs.Entries.{inputWritten, writeInput}
 use Rattle.orders.specs.Entries.{fitsExactly}
-use Rattle.layouts.specs.Layouts.{sizedRequest, judgeRequest, ifSized, onChannel, judgeCommand, judgeRead, judgeWrite}
+use Rattle.judges.specs.Judges.{sizedRequest, judgeRequest, ifSized, onChannel, judgeCommand, judgeRead, judgeWrite}
 use Rattle.orders.specs.Orders.{requestOf, commandOf, readOf, writeOf, orderOf}
 use Rattle.readings.specs.Readings as readings
 use Rattle.replies.specs.Replies.{inputsOf, relaysOf}

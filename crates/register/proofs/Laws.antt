@@ -26,9 +26,9 @@ use Rattle.rows.specs.Rows.{word}
 use Rattle.rows.specs.Places.{Board, rowAt, lineAt, clockSet, clockRow}
 use Rattle.pulses.specs.declared.Pulse.{Pulse}
 use Rattle.pulses.specs.Pulses.{shortRow, elapsed, rowAfter}
-use Rattle.layouts.specs.declared.Order.{Order}
-use Rattle.layouts.specs.declared.Order.the-variants.{Refused, SetClock}
-use Rattle.layouts.specs.Layouts.{judgeSetClock}
+use Rattle.judges.specs.declared.Order.{Order}
+use Rattle.judges.specs.declared.Order.the-variants.{Refused, SetClock}
+use Rattle.judges.specs.Judges.{judgeSetClock}
 use Rattle.orders.specs.Orders.{setClockOf, orderOf}
 use Rattle.marks.specs.Marks.{withDue}
 use Rattle.plain.specs.Events.{Did, did, refused, leveled, timePassed, connected, closed, monitorSent, collected}

@@ -16,8 +16,8 @@ use Rattle.changes.specs.Answers as tables
 use Rattle.changes.specs.Answers.{onInput, onRelay}
 use Rattle.changes.specs.Levels.{told, hasLevel, levelOf}
 use Rattle.changes.specs.Commands.{blockOf}
-use Rattle.layouts.specs.declared.Order.{Order}
-use Rattle.layouts.specs.declared.Order.the-variants.{Refused, Clock, Monitor, Usage, MonitorOff, MonitorOn, SetClock, Close, Open, Toggle, ClearCount, ClearInputUsage, ClearRelayUsage, Block, PulseRelay, PulseBlock, Read, Write, Enumerate}
+use Rattle.judges.specs.declared.Order.{Order}
+use Rattle.judges.specs.declared.Order.the-variants.{Refused, Clock, Monitor, Usage, MonitorOff, MonitorOn, SetClock, Close, Open, Toggle, ClearCount, ClearInputUsage, ClearRelayUsage, Block, PulseRelay, PulseBlock, Read, Write, Enumerate}
 use Rattle.orders.specs.Orders.{orderOf}
 use Rattle.orders.proofs.Orders.{Refusal, refusals}
 use Rattle.marks.specs.Marks.{marked}

@@ -1,0 +1,4 @@
+pub mod Places
+pub mod Readers
+pub mod Steps
+pub mod Unique

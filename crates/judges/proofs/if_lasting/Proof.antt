@@ -1,0 +1,13 @@
+-- `judges::if_lasting`: by the test on the duration.
+use Rattle.laws.proofs.Tests.{tests}
+use Rattle.judges.specs.Judges.{ifLasting}
+use Rattle.judges.proofs.if_lasting.Statement.{statement}
+use Rattle.judges.proofs.if_lasting.Tie as tie
+
+pub if-lasting-spec : {M : Type 1} → statement M
+unfolding ifLasting
+if-lasting-spec =
+    tie.close
+    (tie.spec
+    (λ c. search tests)
+    (λ c. search tests))
