@@ -8,11 +8,11 @@ use Rattle.laws.specs.Chunks.{chunks}
 use Rattle.words.specs.Words.{fits, numberAt}
 use Rattle.framing.specs.Reading.{stepOf, firstOf, afterOf, roomOf, runOf}
 use Rattle.rows.specs.Places.{inputAt, relayAt, lineAt, putInput, putRelay, putLine, onRows, queueOf}
-use Rattle.tables.specs.Alarms.{alarmState, countAlarm, usageAlarm}
+use Rattle.alarms.specs.Alarms.{alarmState, countAlarm, usageAlarm}
 use Rattle.changes.specs.Answers.{onInput, onRelay}
 use Rattle.changes.specs.Levels.{told, levelOf}
 use Rattle.changes.specs.Commands.{masked, blockedRow, blockOf}
-use Rattle.tables.specs.Devices.{idOf, firstWith, deviceOf}
+use Rattle.devices.specs.Devices.{idOf, firstWith, deviceOf}
 use Rattle.changes.specs.Entries.{inputWritten, writeInput}
 use Rattle.orders.specs.Entries.{fitsExactly}
 use Rattle.layouts.specs.Layouts.{sizedRequest, judgeRequest, ifSized, onChannel, judgeCommand, judgeRead, judgeWrite}

@@ -4,7 +4,7 @@ use Prim.Native.Nat.{ℕ, _+_, min}
 use lib.Dec.{eqb, ltb}
 use Rattle.rows.specs.declared.Input.{Input}
 use Rattle.rows.specs.Places.{Board, isChannel, inputAt}
-use Rattle.tables.specs.Held.{leveled, counted}
+use Rattle.rows.specs.Held.{leveled, counted}
 use Rattle.changes.specs.Answers.{Change, served, refused, onInput}
 
 -- "Off to on adds one to the count, which stays at 4294967295 once there."
