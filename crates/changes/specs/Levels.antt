@@ -1,19 +1,10 @@
 -- The level of an input. Document 01, "Events besides bytes".
-use mathlib.Core.Bool.{Bool, Bool·beq, false, cond, not, _&&_}
-use Prim.Native.Nat.{ℕ, _+_, min}
+use mathlib.Core.Bool.{Bool, Bool·beq, false, cond, _&&_}
+use Prim.Native.Nat.{ℕ}
 use lib.Dec.{eqb, ltb}
-use Rattle.rows.specs.declared.Input.{Input}
 use Rattle.rows.specs.Places.{Board, isChannel, inputAt}
-use Rattle.rows.specs.Held.{leveled, counted}
+use Rattle.edits.specs.Edits.{told}
 use Rattle.changes.specs.Answers.{Change, served, refused, onInput}
-
--- "Off to on adds one to the count, which stays at 4294967295 once there."
-abbrev pub raised : Bool → Bool → ℕ → ℕ
-raised before after count = cond (not before && after) (min (count + 1) 4294967295) count
-
--- an input that is told its level
-unfoldable pub told : Bool → Input → Input
-told on i = leveled on (counted (raised (i .level) on (i .count)) i)
 
 -- 01, Events, 1: input k is one of the box's and has this level already
 abbrev pub hasLevel : ℕ → Bool → Board → Bool

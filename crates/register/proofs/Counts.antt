@@ -25,9 +25,10 @@ use Rattle.laws.specs.Bits.{hasFlag, bitOf}
 use Rattle.devices.specs.Devices.{deviceOf}
 use Rattle.tables.specs.Time.{grown, usagePassed, passed}
 use Rattle.changes.specs.Answers.{onInput, onRelay}
-use Rattle.changes.specs.Levels.{raised, told, hasLevel, levelOf}
+use Rattle.changes.specs.Levels.{hasLevel, levelOf}
+use Rattle.edits.specs.Edits.{raised, told, countWritten, inputWritten, relayFails}
 use Rattle.changes.specs.Commands.{blockedRow, blockOf}
-use Rattle.changes.specs.Entries.{countWritten, inputWritten, relayFails, writeInput, writeRelay}
+use Rattle.changes.specs.Entries.{writeInput, writeRelay}
 use Rattle.orders.specs.declared.Entry.{Entry}
 use Rattle.orders.specs.Entries.{entryOf}
 use Rattle.orders.specs.Orders.{orderOf}

@@ -9,7 +9,6 @@ pub mod BoxLawful
 pub mod BoxDemand
 pub mod Laws
 pub mod Counts
-pub mod UniqueChanges
 pub mod UniquePlain
 pub mod UniqueBoard
 pub mod BoxContracts

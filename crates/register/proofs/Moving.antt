@@ -19,7 +19,8 @@ use Rattle.tables.specs.Time.{usagePassed, passed}
 use Rattle.changes.specs.Answers.{onInput, onRelay}
 use Rattle.changes.specs.Levels.{hasLevel, levelOf}
 use Rattle.changes.specs.Commands.{blockedRow, blockOf}
-use Rattle.changes.specs.Entries.{relayFails, writeInput, writeRelay}
+use Rattle.changes.specs.Entries.{writeInput, writeRelay}
+use Rattle.edits.specs.Edits.{relayFails}
 use Rattle.orders.specs.declared.Entry.{Entry}
 use Rattle.orders.specs.Entries.{entryOf}
 use Rattle.writes.specs.Writes.{Entered, inputSizeFits, relaySizeFits, deviceDone, entryNoted, writtenFrom}
