@@ -8,12 +8,13 @@ use Rattle.laws.specs.Chunks.{chunks}
 use Rattle.words.specs.Words.{fits, numberAt}
 use Rattle.framing.specs.Reading.{stepOf, firstOf, afterOf, roomOf, runOf}
 use Rattle.rows.specs.Places.{inputAt, relayAt, lineAt, putInput, putRelay, putLine, onRows, queueOf}
-use Rattle.tables.specs.Alarms.{alarmState, countAlarm, usageAlarm}
+use Rattle.alarms.specs.Alarms.{alarmState, countAlarm, usageAlarm}
 use Rattle.changes.specs.Answers.{onInput, onRelay}
-use Rattle.changes.specs.Levels.{told, levelOf}
+use Rattle.changes.specs.Levels.{levelOf}
+use Rattle.edits.specs.Edits.{told, inputWritten}
 use Rattle.changes.specs.Commands.{masked, blockedRow, blockOf}
-use Rattle.tables.specs.Devices.{idOf, firstWith, deviceOf}
-use Rattle.changes.specs.Entries.{inputWritten, writeInput}
+use Rattle.devices.specs.Devices.{idOf, firstWith, deviceOf}
+use Rattle.changes.specs.Entries.{writeInput}
 use Rattle.orders.specs.Entries.{fitsExactly}
 use Rattle.judges.specs.Judges.{sizedRequest, judgeRequest, ifSized, onChannel, judgeCommand, judgeRead, judgeWrite}
 use Rattle.orders.specs.Orders.{requestOf, commandOf, readOf, writeOf, orderOf}

@@ -10,8 +10,8 @@ use Rattle.rows.specs.Rows.{relayIn, blankRelay}
 use Rattle.rows.specs.Places.{Board, isChannel, rowAt, relayAt, putRelay, firstRelay, relayPlace}
 use Rattle.rows.proofs.Channel.{channel}
 use Rattle.rows.proofs.Range.{Ranging, row-waits}
-use Rattle.tables.specs.Held.{switched}
-use Rattle.tables.specs.Bits.{bitOf}
+use Rattle.rows.specs.Held.{switched}
+use Rattle.laws.specs.Bits.{bitOf}
 use Rattle.changes.specs.declared.Changed.{Changed}
 use Rattle.changes.specs.Answers.{Makes, noChange, sameAgain, served, refused, differ}
 use Rattle.changes.specs.Commands.{blockedRow}

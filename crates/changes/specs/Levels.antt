@@ -1,19 +1,10 @@
--- The level of an input: 01, Events, 1.
-use mathlib.Core.Bool.{Bool, Bool·beq, false, cond, not, _&&_}
-use Prim.Native.Nat.{ℕ, _+_, min}
+-- The level of an input. Document 01, "Events besides bytes".
+use mathlib.Core.Bool.{Bool, Bool·beq, false, cond, _&&_}
+use Prim.Native.Nat.{ℕ}
 use lib.Dec.{eqb, ltb}
-use Rattle.rows.specs.declared.Input.{Input}
 use Rattle.rows.specs.Places.{Board, isChannel, inputAt}
-use Rattle.tables.specs.Held.{leveled, counted}
+use Rattle.edits.specs.Edits.{told}
 use Rattle.changes.specs.Answers.{Change, served, refused, onInput}
-
--- 01, Events, 1: a rise counts one more, up to 4294967295
-abbrev pub raised : Bool → Bool → ℕ → ℕ
-raised before after count = cond (not before && after) (min (count + 1) 4294967295) count
-
--- 01, Events, 1: an input that is told its level
-unfoldable pub told : Bool → Input → Input
-told on i = leveled on (counted (raised (i .level) on (i .count)) i)
 
 -- 01, Events, 1: input k is one of the box's and has this level already
 abbrev pub hasLevel : ℕ → Bool → Board → Bool

@@ -14,7 +14,7 @@ use lib.Pow.{pow-pos, pow-add, shl-exact}
 use borrow.Author.Tests.{ltb-true, ltb-false}
 use Rattle.laws.proofs.Tests.{by-cases}
 use Rattle.rows.specs.Places.{Board, relayAt}
-use Rattle.tables.specs.Bits.{bitOf}
+use Rattle.laws.specs.Bits.{bitOf}
 use Rattle.pulses.specs.Pulses.{statesBelow, statesOf}
 
 pub weight : (k w : ℕ) → k < w → 1 * 2 ^ k % 2 ^ w ≡ 2 ^ k

@@ -21,7 +21,7 @@ use Rattle.rows.specs.Rows.{lineIn, relayIn, blankRelay}
 use Rattle.rows.specs.Places.{Board, isChannel, rowAt, relayAt, lineAt, firstRelay, relayPlace, clockRow, firstLine, linePlace, queueRow, queueOf, putQueue, onRows}
 use Rattle.rows.proofs.Range.{beyond}
 use Rattle.rows.proofs.Views.{line-again}
-use Rattle.tables.specs.Bits.{bitOf}
+use Rattle.laws.specs.Bits.{bitOf}
 use Rattle.changes.specs.Commands.{masked, blocked, blockMoves, blockedRow, blockOf}
 use Rattle.changes.proofs.Making.{differ-same}
 use Rattle.marks.specs.Marks.{withDue, watches, markedRow, marked}

@@ -35,8 +35,8 @@ use Rattle.laws.proofs.Tests.{by-cases}
 use Rattle.rows.specs.declared.Queue.{Queue}
 use Rattle.rows.specs.Places.{Board, isChannel, relayAt, queueRow, queueOf, putQueue}
 use Rattle.rows.proofs.Channel.{and-left, in-range}
-use Rattle.tables.specs.Held as held
-use Rattle.tables.specs.Bits.{bitOf}
+use Rattle.rows.specs.Held as held
+use Rattle.laws.specs.Bits.{bitOf}
 use Rattle.tables.specs.Time.{passed}
 use Rattle.pulses.specs.declared.Pulse.{Pulse}
 use Rattle.pulses.specs.Pulses.{pulseOf, relayPulse, pulseAt, standing, isFull, runs, place, statesBelow, statesOf, begun, ended, turned, endsWithin, tick, elapsed, joined, accepted, newest, seatOf, rowAfter}

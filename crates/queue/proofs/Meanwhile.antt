@@ -24,8 +24,9 @@ use Rattle.rows.proofs.Channel.{in-range}
 use Rattle.rows.proofs.Range.{beyond}
 use Rattle.changes.specs.Answers.{onInput, onRelay}
 use Rattle.changes.specs.Commands.{blockedRow, blockOf}
-use Rattle.changes.specs.Entries.{inputWritten, relayWritten, relayFails, writeInput, writeRelay}
-use Rattle.changes.specs.Levels.{told, hasLevel, levelOf}
+use Rattle.changes.specs.Entries.{writeInput, writeRelay}
+use Rattle.changes.specs.Levels.{hasLevel, levelOf}
+use Rattle.edits.specs.Edits.{told, inputWritten, relayWritten, relayFails}
 use Rattle.marks.specs.Marks.{markedRow, marked}
 use Rattle.pulses.specs.Pulses.{runs}
 use Rattle.queue.specs.Meanwhile.{Beside}

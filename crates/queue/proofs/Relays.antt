@@ -18,8 +18,8 @@ use Rattle.rows.specs.Places.{Board, rowAt, relayAt, firstRelay, relayPlace, cl
 use Rattle.rows.proofs.Channel.{channel}
 use Rattle.rows.proofs.Range.{within, beyond}
 use Rattle.rows.proofs.Views.{relay-again}
-use Rattle.tables.specs.Held as held
-use Rattle.tables.specs.Bits.{bitOf}
+use Rattle.rows.specs.Held as held
+use Rattle.laws.specs.Bits.{bitOf}
 use Rattle.changes.specs.Commands.{blockedRow, blockOf}
 use Rattle.marks.specs.Marks.{markedRow, marked}
 use Rattle.pulses.specs.declared.Pulse.{Pulse}

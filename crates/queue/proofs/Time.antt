@@ -20,8 +20,8 @@ use Rattle.rows.specs.Rows.{word, stateWord, usageWord, isOn}
 use Rattle.rows.specs.Places.{Board, isChannel, rowAt, relayAt, lineAt, relayPlace, linePlace, clockRow, clockSet, queueRow, queueOf, putQueue, leftSet, onRows}
 use Rattle.rows.proofs.Channel.{in-range, channel}
 use Rattle.rows.proofs.Range.{within, behind}
-use Rattle.tables.specs.Held as held
-use Rattle.tables.specs.Bits.{bitOf}
+use Rattle.rows.specs.Held as held
+use Rattle.laws.specs.Bits.{bitOf}
 use Rattle.tables.specs.Time.{grown, usagePassed, relayPassed, passed}
 use Rattle.tables.proofs.Views.{time-relay}
 use Rattle.pulses.specs.declared.Pulse.{Pulse}

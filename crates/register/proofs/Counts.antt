@@ -19,15 +19,16 @@ use Rattle.rows.specs.declared.Line.{Line}
 use Rattle.rows.specs.Rows.{isOn, word, stateWord, usageWord, inputIn, lineIn, shutLine}
 use Rattle.rows.specs.Places.{Board, isChannel, isConnection, rowAt, inputAt, relayAt, putInput, putRelay, putLine, clockSet, onRows, inputPlace, relayPlace, linePlace, firstInput, firstRelay, firstLine, clockRow, queueRow, queueOf, rows, lineAt}
 use Rattle.rows.proofs.Channel.{in-range, channel}
-use Rattle.tables.specs.declared.Device.{Device}
-use Rattle.tables.specs.declared.Device.the-variants.{Din, Rout, Unknown}
-use Rattle.tables.specs.Bits.{hasFlag, bitOf}
-use Rattle.tables.specs.Devices.{deviceOf}
+use Rattle.devices.specs.declared.Device.{Device}
+use Rattle.devices.specs.declared.Device.the-variants.{Din, Rout, Unknown}
+use Rattle.laws.specs.Bits.{hasFlag, bitOf}
+use Rattle.devices.specs.Devices.{deviceOf}
 use Rattle.tables.specs.Time.{grown, usagePassed, passed}
 use Rattle.changes.specs.Answers.{onInput, onRelay}
-use Rattle.changes.specs.Levels.{raised, told, hasLevel, levelOf}
+use Rattle.changes.specs.Levels.{hasLevel, levelOf}
+use Rattle.edits.specs.Edits.{raised, told, countWritten, inputWritten, relayFails}
 use Rattle.changes.specs.Commands.{blockedRow, blockOf}
-use Rattle.changes.specs.Entries.{countWritten, inputWritten, relayFails, writeInput, writeRelay}
+use Rattle.changes.specs.Entries.{writeInput, writeRelay}
 use Rattle.orders.specs.declared.Entry.{Entry}
 use Rattle.orders.specs.Entries.{entryOf}
 use Rattle.orders.specs.Orders.{orderOf}

@@ -9,8 +9,6 @@ pub mod BoxLawful
 pub mod BoxDemand
 pub mod Laws
 pub mod Counts
-pub mod UniqueTables
-pub mod UniqueChanges
 pub mod UniquePlain
 pub mod UniqueBoard
 pub mod BoxContracts

@@ -12,14 +12,15 @@ use Rattle.rows.specs.declared.Input.{Input}
 use Rattle.rows.specs.declared.Relay.{Relay}
 use Rattle.rows.specs.Places.{Board, isChannel, inputAt, relayAt, putInput, putRelay, clockSet, onRows, inputPlace, relayPlace, firstInput, firstRelay, firstLine, clockRow}
 use Rattle.rows.proofs.Channel.{in-range}
-use Rattle.tables.specs.declared.Device.{Device}
-use Rattle.tables.specs.declared.Device.the-variants.{Din, Rout, Unknown}
-use Rattle.tables.specs.Devices.{deviceOf}
+use Rattle.devices.specs.declared.Device.{Device}
+use Rattle.devices.specs.declared.Device.the-variants.{Din, Rout, Unknown}
+use Rattle.devices.specs.Devices.{deviceOf}
 use Rattle.tables.specs.Time.{usagePassed, passed}
 use Rattle.changes.specs.Answers.{onInput, onRelay}
 use Rattle.changes.specs.Levels.{hasLevel, levelOf}
 use Rattle.changes.specs.Commands.{blockedRow, blockOf}
-use Rattle.changes.specs.Entries.{relayFails, writeInput, writeRelay}
+use Rattle.changes.specs.Entries.{writeInput, writeRelay}
+use Rattle.edits.specs.Edits.{relayFails}
 use Rattle.orders.specs.declared.Entry.{Entry}
 use Rattle.orders.specs.Entries.{entryOf}
 use Rattle.writes.specs.Writes.{Entered, inputSizeFits, relaySizeFits, deviceDone, entryNoted, writtenFrom}

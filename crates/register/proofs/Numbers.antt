@@ -14,7 +14,8 @@ use Rattle.pulses.specs.declared.Pulse.{Pulse}
 use Rattle.pulses.specs.Pulses.{pulseOf, relayPulse, isFull}
 use Rattle.changes.specs.Answers as tables
 use Rattle.changes.specs.Answers.{onInput, onRelay}
-use Rattle.changes.specs.Levels.{told, hasLevel, levelOf}
+use Rattle.changes.specs.Levels.{hasLevel, levelOf}
+use Rattle.edits.specs.Edits.{told}
 use Rattle.changes.specs.Commands.{blockOf}
 use Rattle.judges.specs.declared.Order.{Order}
 use Rattle.judges.specs.declared.Order.the-variants.{Refused, Clock, Monitor, Usage, MonitorOff, MonitorOn, SetClock, Close, Open, Toggle, ClearCount, ClearInputUsage, ClearRelayUsage, Block, PulseRelay, PulseBlock, Read, Write, Enumerate}

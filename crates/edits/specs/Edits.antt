@@ -1,0 +1,59 @@
+-- What is done to one input or one relay. Document 01, "Events besides bytes" and "Messages offered".
+use mathlib.Core.Bool.{Bool, true, false, cond, not, _&&_, _||_}
+use Prim.Native.Nat.{ℕ, _+_, min}
+use lib.Dec.{eqb, ltb}
+use Rattle.laws.specs.Bits.{hasFlag}
+use Rattle.rows.specs.declared.Input.{Input}
+use Rattle.rows.specs.declared.Relay.{Relay}
+use Rattle.rows.specs.Held.{leveled, counted, inputUsed, switched, relayUsed}
+use Rattle.edits.specs.declared.InputEdit.{InputEdit}
+use Rattle.edits.specs.declared.InputEdit.the-variants as input
+use Rattle.edits.specs.declared.RelayEdit.{RelayEdit}
+use Rattle.edits.specs.declared.RelayEdit.the-variants as relay
+
+-- "Off to on adds one to the count, which stays at 4294967295 once there."
+abbrev pub raised : Bool → Bool → ℕ → ℕ
+raised before after count = cond (not before && after) (min (count + 1) 4294967295) count
+
+-- an input that is told its level
+unfoldable pub told : Bool → Input → Input
+told on i = leveled on (counted (raised (i .level) on (i .count)) i)
+
+-- "3 toggle", of one relay
+abbrev pub toggled : Relay → Relay
+toggled r = switched (not (r .closed)) r
+
+-- "Input flags 1 reset count, 2 write count; with 1 and 2 together the written count stands"
+abbrev pub countWritten : ℕ → ℕ → ℕ → ℕ
+countWritten flags count was = cond (hasFlag flags 2) count (cond (hasFlag flags 1) 0 was)
+
+-- ".. 4 reset usage": an input after an entry
+unfoldable pub inputWritten : ℕ → ℕ → Input → Input
+inputWritten flags count i = counted (countWritten flags count (i .count)) (inputUsed (cond (hasFlag flags 4) 0 (i .usage)) i)
+
+-- "Relay flags 1 state": 0 open, 1 closed
+abbrev pub stateWritten : ℕ → ℕ → Bool → Bool
+stateWritten flags state was = cond (hasFlag flags 1) (eqb state 1) was
+
+-- ".. 2 reset usage": a relay after an entry
+unfoldable pub relayWritten : ℕ → ℕ → Relay → Relay
+relayWritten flags state r = switched (stateWritten flags state (r .closed)) (relayUsed (cond (hasFlag flags 2) 0 (r .usage)) r)
+
+-- "a flag is unknown, or a written relay state is above 1": the flags of a relay are 1 and 2
+abbrev pub relayFails : ℕ → ℕ → Bool
+relayFails flags state = ltb 3 flags || (hasFlag flags 1 && ltb 1 state)
+
+-- "Level of input k", actions 5 and 8, an entry's flags
+abbrev pub inputEdited : InputEdit → Input → Input
+inputEdited (input.Tell on) = told on
+inputEdited input.ClearCount = counted 0
+inputEdited input.ClearUsage = inputUsed 0
+inputEdited (input.Write flags count) = inputWritten flags count
+
+-- actions 1, 2, 3 and 9, an entry's flags
+abbrev pub relayEdited : RelayEdit → Relay → Relay
+relayEdited relay.Close = switched true
+relayEdited relay.Open = switched false
+relayEdited relay.Toggle = toggled
+relayEdited relay.ClearUsage = relayUsed 0
+relayEdited (relay.Write flags state) = relayWritten flags state
