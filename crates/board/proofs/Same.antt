@@ -4,8 +4,8 @@ use mathlib.Core.List.{List}
 use Prim.Native.Nat.{ℕ}
 use Rattle.rows.specs.Places.{Board}
 use Rattle.board.specs.declared.Done.{Done}
-use Rattle.board.specs.Halves.{Halves}
-use Rattle.board.specs.Calls.{Effect, dropped, Ends, Answers}
+use Rattle.halves.specs.Halves.{Halves, dropped}
+use Rattle.board.specs.Calls.{Effect, Ends, Answers}
 
 pub ends : {e : Effect} {b b′ : Board} {r r′ : Done} → Ends e b r → Ends e b′ r′ → (r ≡ r′) × (b ≡ b′)
 ends p q = (p .gives ∙ sym (q .gives), p .board ∙ sym (q .board))

@@ -8,7 +8,7 @@ use Rattle.rows.specs.Places.{Board}
 use Rattle.pulses.specs.declared.Pulse.{Pulse}
 use Rattle.pulses.specs.Pulses.{rowAfter}
 use Rattle.board.specs.declared.Done.{Done}
-use Rattle.board.specs.Halves.{Halves}
+use Rattle.halves.specs.Halves.{Halves}
 use Rattle.board.specs.Calls.{Effect, passCall, passedIn, bytesCall, halvesAfter, roomsAfter, Ends, Answers}
 use Rattle.board.proofs.Same.{ends, answers, halved}
 use Rattle.capi.proofs.wellacorn_power_up.Reads as power-up

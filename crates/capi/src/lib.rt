@@ -5,10 +5,11 @@
 ghost use mathlib.Core.Path.{_≡_};
 ghost use lib.ListN.{length};
 ghost use Rattle.pulses.specs.Pulses.{rowAfter};
-ghost use Rattle.board.specs.PowerUp.{poweredUp};
-ghost use Rattle.board.specs.Calls.{levelCall, passCall, passedIn, connectCall, closeCall, collectCall, bytesCall, dropped, halvesAfter, roomsAfter, Ends, Answers};
+ghost use Rattle.powerup.specs.PowerUp.{poweredUp};
+ghost use Rattle.halves.specs.Halves.{dropped};
+ghost use Rattle.board.specs.Calls.{levelCall, passCall, passedIn, connectCall, closeCall, collectCall, bytesCall, halvesAfter, roomsAfter, Ends, Answers};
 use board::Done;
-use board::Settings;
+use powerup::Settings;
 use pulses::Pulse;
 use rows::ROWS;
 
@@ -17,7 +18,7 @@ use rows::ROWS;
 pub extern "C" fn wellacorn_power_up(board: &mut [[u64; 8]; ROWS], s: Settings)
     ensures { λ u. ⌜ now (board .exit) ≡ poweredUp s ⌝ }
 {
-    board::power_up(board, s);
+    powerup::power_up(board, s);
 }
 
 // Input k is told its level, 0 or 1.

@@ -31,9 +31,9 @@ use Rattle.plain.specs.Events.{connected, monitorSent, collected}
 use Rattle.serving.specs.Obeying.{obeyed}
 use Rattle.serving.specs.Serving.{servedContent, servedMessage}
 use Rattle.pulses.specs.Pulses.{rowAfter}
-use Rattle.board.specs.declared.Settings.{Settings}
-use Rattle.board.specs.Halves.{Halves, halfIn, halfAt, putHalf}
-use Rattle.board.specs.PowerUp.{poweredUp}
+use Rattle.powerup.specs.declared.Settings.{Settings}
+use Rattle.halves.specs.Halves.{Halves, halfIn, halfAt, putHalf}
+use Rattle.powerup.specs.PowerUp.{poweredUp}
 use Rattle.board.specs.Calls.{connectCall}
 use Rattle.demand.specs.Demand.{Call, bytes, other, Answer, Machine, final, trace, begins, Meets}
 use Rattle.demand.proofs.Following.{answers-now, answers-after, answers-all}

@@ -14,8 +14,8 @@ use Rattle.plain.specs.Lines.{openedLine}
 use Rattle.plain.specs.Events.{connected, closed}
 use Rattle.serving.specs.Serving.{servedMessage}
 use Rattle.pulses.specs.Pulses.{rowAfter}
-use Rattle.board.specs.PowerUp.{poweredUp}
-use Rattle.board.specs.Halves.{Halves, halfAt, putHalf}
+use Rattle.powerup.specs.PowerUp.{poweredUp}
+use Rattle.halves.specs.Halves.{Halves, halfAt, putHalf}
 use Rattle.board.specs.Calls.{connectCall, closeCall, bytesCall, halvesAfter, roomsAfter}
 use Rattle.demand.specs.Demand.{Call, Answer, trace, Demand3}
 use Rattle.register.specs.Box.{served, Held, atPowerUp, run}

@@ -28,8 +28,8 @@ use Rattle.plain.specs.Events.{leveled, connected, monitorSent, collected}
 use Rattle.serving.specs.Obeying.{monitorSet, obeyed}
 use Rattle.serving.specs.Serving.{servedContent, servedMessage}
 use Rattle.pulses.specs.Pulses.{rowAfter}
-use Rattle.board.specs.PowerUp.{poweredUp}
-use Rattle.board.specs.Halves.{halfAt, putHalf}
+use Rattle.powerup.specs.PowerUp.{poweredUp}
+use Rattle.halves.specs.Halves.{halfAt, putHalf}
 use Rattle.board.specs.Calls.{levelCall, connectCall, collectCall, bytesCall, halvesAfter, roomsAfter}
 use Rattle.cases.specs.Starred.{Row, countTop, toldAgain, blockCases, channelEdges, lengthCases, writeCases, starredCases}
 

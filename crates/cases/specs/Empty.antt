@@ -3,8 +3,8 @@ use mathlib.Core.Path.{_≡_}
 use mathlib.Core.List.{List, []}
 use Prim.Native.Nat.{ℕ, _≤_}
 use Rattle.pulses.specs.declared.Pulse.{Pulse}
-use Rattle.board.specs.declared.Settings.{Settings}
-use Rattle.board.specs.PowerUp.{poweredUp}
+use Rattle.powerup.specs.declared.Settings.{Settings}
+use Rattle.powerup.specs.PowerUp.{poweredUp}
 use Rattle.demand.specs.Demand.{Said, waits, refused, did, Call, Machine, final}
 use Rattle.register.specs.Box.{Reply, refusing, Tables, tables, served, tablesOf}
 use Rattle.cases.specs.Starred.{after}

@@ -1,8 +1,8 @@
 -- Three versions of the box that lose something, as machines over the same calls.
 use mathlib.Core.List.{List, [], _∷_, map}
 use Prim.Native.Nat.{ℕ}
-use Rattle.board.specs.Halves.{halfAt, putHalf}
-use Rattle.board.specs.Rooms.{roomAt, putRoom}
+use Rattle.halves.specs.Halves.{halfAt, putHalf}
+use Rattle.halves.specs.Rooms.{roomAt, putRoom}
 use Rattle.demand.specs.Demand.{waits, Call, bytes, other, Answer, answer, Machine, Trace}
 use Rattle.register.specs.Box.{connect, close, served, Held, held, tablesOf, boxCall}
 use Rattle.cases.specs.Empty.{shown}

@@ -11,7 +11,7 @@ use Rattle.laws.proofs.Put.{length-put, put-front, put-none}
 use Rattle.plain.specs.Events.{refused}
 use Rattle.rows.specs.Places.{Board}
 use Rattle.board.specs.declared.Done.{Done}
-use Rattle.board.specs.Halves.{Halves}
+use Rattle.halves.specs.Halves.{Halves}
 use Rattle.board.specs.Calls.{Answers, still, doneOf, bytesCall, halvesAfter, roomsAfter}
 use Rattle.console.specs.declared.Parsed.{Parsed}
 use Rattle.console.specs.declared.Parsed.the-variants.{Bytes, Bad}

@@ -15,7 +15,7 @@ use lib.Seq.{take-all, take-append-le, take-suc-set}
 use Rattle.laws.proofs.Tests.{by-cases}
 use Rattle.framing.specs.Cut.{joined}
 use Rattle.rows.specs.Places.{Board}
-use Rattle.board.specs.Halves.{Halves}
+use Rattle.halves.specs.Halves.{Halves}
 use Rattle.board.specs.Calls.{Effect}
 use Rattle.console.specs.Digits.{feeds, parsed}
 use Rattle.console.specs.Lines.{onFirst, linesOf, started, startedHalves, lineCall, lineHalves, lineRooms, shown, printed}

@@ -3,7 +3,7 @@ use mathlib.Core.Path.{_≡_, refl}
 use lib.ListN.{replicate}
 use Rattle.rows.specs.Places.{lineAt, onRows}
 use Rattle.plain.specs.Events.{connected}
-use Rattle.board.specs.PowerUp.{blankSettings, poweredUp}
+use Rattle.powerup.specs.PowerUp.{blankSettings, poweredUp}
 use Rattle.board.specs.Calls.{connectCall}
 
 pub opened : connectCall 0 2 (poweredUp (record { inputs = replicate 8 blankSettings; relays = replicate 8 0 })) .did .answer ≡ 1

@@ -18,7 +18,7 @@ use Rattle.words.proofs.Laws.{stored}
 use Rattle.rows.specs.Places.{Board}
 use Rattle.replies.specs.Replies.{relaysOf}
 use Rattle.board.specs.declared.Done.{Done}
-use Rattle.board.specs.Halves.{Halves}
+use Rattle.halves.specs.Halves.{Halves}
 use Rattle.console.specs.Digits.{relayBits, shownOf}
 use Rattle.console.specs.Lines.{shown}
 use Rattle.console.specs.Console.{Held, held, soFar, lineHeld, ended, kept, step, says, run, said}

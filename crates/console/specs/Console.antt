@@ -7,7 +7,7 @@ use lib.Dec.{eqb, ltb}
 use lib.ListN.{set, take}
 use Rattle.laws.specs.Put.{put}
 use Rattle.rows.specs.Places.{Board}
-use Rattle.board.specs.Halves.{Halves}
+use Rattle.halves.specs.Halves.{Halves}
 use Rattle.board.specs.Calls.{Effect}
 use Rattle.console.specs.declared.Console.{Console}
 use Rattle.console.specs.Lines.{lineCall, lineHalves, lineRooms, shown}

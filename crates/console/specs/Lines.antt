@@ -8,8 +8,8 @@ use Rattle.plain.specs.Events.{refused}
 use Rattle.framing.specs.Reading.{start}
 use Rattle.rows.specs.Places.{Board}
 use Rattle.replies.specs.Replies.{relaysOf}
-use Rattle.board.specs.PowerUp.{blankSettings, poweredUp}
-use Rattle.board.specs.Halves.{Halves, putHalf}
+use Rattle.powerup.specs.PowerUp.{blankSettings, poweredUp}
+use Rattle.halves.specs.Halves.{Halves, putHalf}
 use Rattle.board.specs.Calls.{Effect, still, connectCall, bytesCall, halvesAfter, roomsAfter}
 use lib.ListN.{replicate}
 use Rattle.console.specs.Digits.{parsed, relayBits, shownOf}

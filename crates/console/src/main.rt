@@ -17,10 +17,10 @@ ghost use Rattle.console.specs.Digits.{closedBit, relayBits, shownOf};
 ghost use Rattle.console.specs.Lines.{started, startedHalves, lineCall, lineHalves, lineRooms, shown};
 ghost use Rattle.console.specs.Console.{heldOf, lineHeld, ended, step, says, run, said, atEnd, saidAtEnd};
 use board::Done;
-use board::InputSettings;
-use board::Settings;
 use libc::STDIN_FILENO;
 use libc::STDOUT_FILENO;
+use powerup::InputSettings;
+use powerup::Settings;
 use rows::ROWS;
 use rows::Relay;
 
@@ -215,7 +215,7 @@ fn start(board: &mut [[u64; 8]; ROWS], halves: &mut [[u64; 3]; 4])
     };
     let inputs = [nothing; 8];
     let relays = [0u64; 8];
-    board::power_up(board, Settings { inputs, relays });
+    powerup::power_up(board, Settings { inputs, relays });
     board::connect(board, halves, 0, 2);
 }
 

@@ -20,9 +20,9 @@ use Rattle.pulses.specs.declared.Pulse.{Pulse}
 use Rattle.pulses.specs.Pulses.{shortRow, rowAfter}
 use Rattle.plain.specs.Lines.{openedLine, isOpen}
 use Rattle.plain.specs.Events.{tooShort, connected, closed}
-use Rattle.board.specs.Halves.{Halves, halfAt, putHalf}
-use Rattle.board.specs.Rooms.{roomAt, putRoom}
-use Rattle.board.specs.Calls.{dropped, answered, fed, fedCall, bytesCall, halvesAfter, roomsAfter}
+use Rattle.halves.specs.Halves.{Halves, halfAt, putHalf, dropped}
+use Rattle.halves.specs.Rooms.{roomAt, putRoom}
+use Rattle.board.specs.Calls.{answered, fed, fedCall, bytesCall, halvesAfter, roomsAfter}
 use Rattle.register.specs.Box.{Reply, Tables, refusalOf}
 use Rattle.register.proofs.Cases.{bytes-cases, connect-cases, close-cases}
 use Rattle.register.proofs.Touching.{Touches, still, line-apart, message-touches}

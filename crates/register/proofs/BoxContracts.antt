@@ -29,10 +29,10 @@ use Rattle.plain.specs.Events.{Did, framed, leveled, timePassed, connected, clo
 use Rattle.serving.specs.Obeying.{obeyed}
 use Rattle.serving.specs.Serving.{servedContent, servedMessage}
 use Rattle.serving.proofs.Lengths as serving
-use Rattle.board.specs.Halves.{Halves}
+use Rattle.halves.specs.Halves.{Halves}
 use Rattle.board.specs.declared.Done.{Done}
 use Rattle.board.specs.Calls.{Effect, Ends, Answers, answered, fed, levelCall, passCall, connectCall, closeCall, collectCall, bytesCall, halvesAfter, roomsAfter}
-use Rattle.board.proofs.power_up.Reads as power-up
+use Rattle.powerup.proofs.power_up.Reads as power-up
 use Rattle.board.proofs.level.Reads as level
 use Rattle.board.proofs.connect.Reads as connect
 use Rattle.board.proofs.close.Reads as close

@@ -19,9 +19,9 @@ use Rattle.rows.proofs.Range.{beyond}
 use Rattle.pulses.specs.declared.Pulse.{Pulse}
 use Rattle.plain.specs.Lines.{isOpen}
 use Rattle.serving.specs.Serving.{servedMessage}
-use Rattle.board.specs.declared.Settings.{Settings}
-use Rattle.board.specs.PowerUp.{poweredUp}
-use Rattle.board.specs.Halves.{Halves}
+use Rattle.powerup.specs.declared.Settings.{Settings}
+use Rattle.powerup.specs.PowerUp.{poweredUp}
+use Rattle.halves.specs.Halves.{Halves}
 use Rattle.demand.specs.Plain.{messagesOf}
 use Rattle.demand.specs.Demand.{Call, bytes, feedsTo, Machine, schedule, log, final, trace, Demand3}
 use Rattle.demand.specs.Senders.{without, Steady, wires, quiet, OffersFirst, AllHeard, remaining, Handed, uncut, handing}

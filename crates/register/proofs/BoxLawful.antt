@@ -19,11 +19,11 @@ use Rattle.plain.specs.Events as plain
 use Rattle.plain.specs.Events.{Did, tooShort, connected, closed}
 use Rattle.serving.specs.Serving.{servedMessage}
 use Rattle.plain.proofs.Lines.{open-below}
-use Rattle.board.specs.Halves.{halfAt}
-use Rattle.board.specs.Rooms.{roomAt}
+use Rattle.halves.specs.Halves.{halfAt}
+use Rattle.halves.specs.Rooms.{roomAt}
 use Rattle.board.specs.Calls.{answered, fed, levelCall, passCall, connectCall, closeCall, collectCall, bytesCall, halvesAfter, roomsAfter}
 use Rattle.board.proofs.Keeping as keeping
-use Rattle.board.proofs.Rooms.{room-long, room-again}
+use Rattle.halves.proofs.Rooms.{room-long, room-again}
 use Rattle.demand.specs.Plain.{OnlyOpen}
 use Rattle.demand.specs.Demand.{refused, did, Call, bytes, other, feedsTo, Answer, answer, Meets}
 use Rattle.demand.specs.Lawful as lawful-spec

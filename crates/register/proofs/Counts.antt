@@ -41,8 +41,8 @@ use Rattle.marks.specs.Marks.{watches, markedRow, marked}
 use Rattle.plain.specs.Events.{leveled, timePassed, monitorSent}
 use Rattle.serving.specs.Obeying.{monitorSet, clockTold, pulsed, obeyed}
 use Rattle.serving.specs.Serving.{servedContent, servedMessage}
-use Rattle.board.specs.declared.Settings.{Settings}
-use Rattle.board.specs.PowerUp.{poweredUp}
+use Rattle.powerup.specs.declared.Settings.{Settings}
+use Rattle.powerup.specs.PowerUp.{poweredUp}
 use Rattle.register.specs.Box.{Event, level, pass, connect, close, collect, Tables, happens}
 use Rattle.register.specs.Laws.{CountsFit, InBytes}
 use Rattle.register.proofs.Cases.{frame-cases, connect-cases, close-cases, collect-cases}

@@ -34,8 +34,8 @@ use Rattle.marks.specs.Marks.{withDue}
 use Rattle.plain.specs.Events.{Did, did, refused, leveled, timePassed, connected, closed, monitorSent, collected}
 use Rattle.serving.specs.Obeying.{clockTold, obeyed}
 use Rattle.serving.specs.Serving.{servedContent, servedMessage}
-use Rattle.board.specs.Halves.{Halves, halfAt}
-use Rattle.board.specs.Calls.{dropped, answered, fed, levelCall, passCall, connectCall, closeCall, collectCall, bytesCall}
+use Rattle.halves.specs.Halves.{Halves, halfAt, dropped}
+use Rattle.board.specs.Calls.{answered, fed, levelCall, passCall, connectCall, closeCall, collectCall, bytesCall}
 use Rattle.demand.specs.Demand.{Call, bytes, other}
 use Rattle.register.specs.Box.{Event, level, pass, connect, close, collect, Tables, happens, served, beforeBytes, Held, held, tablesOf, eventCall, effectOf, halvesOf, boxCall}
 use Rattle.register.specs.Laws.{TypeSeven, ButClock, Untouched, eventOn, callOn, Kept}

@@ -2,7 +2,6 @@
 use mathlib.Core.Path.{_≡_, sym, _∙_}
 use denote.Ref.{now}
 use Rattle.board.proofs.Same.{ends, answers, halved}
-use Rattle.board.proofs.power_up.Reads as power-up
 use Rattle.board.proofs.level.Reads as level
 use Rattle.board.proofs.passed.Reads as passed
 use Rattle.board.proofs.connect.Reads as connect
@@ -12,9 +11,6 @@ use Rattle.board.proofs.bytes.Reads as bytes
 use Rattle.board.proofs.done_of.Reads as done-of
 use Rattle.board.proofs.seat.Reads as seat
 use Rattle.board.proofs.pulse_of.Reads as pulse-of
-
-pub unique-board-power-up : (κs : _) (a : _) (r r′ : _) (s s′ : _) → power-up.Post κs a r s → power-up.Post κs a r′ s′ → now (s .0) ≡ now (s′ .0)
-unique-board-power-up κs a r r′ s s′ p q = p ∙ sym q
 
 pub unique-board-level : (κs : _) (a : _) (r r′ : _) (s s′ : _) → level.Post κs a r s → level.Post κs a r′ s′ → (r ≡ r′) × (now (s .0) ≡ now (s′ .0))
 unique-board-level κs a r r′ s s′ p q = ends p q

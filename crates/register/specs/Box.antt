@@ -11,11 +11,11 @@ use Rattle.serving.specs.Serving.{servedMessage}
 use Rattle.rows.specs.Places.{Board}
 use Rattle.pulses.specs.declared.Pulse.{Pulse}
 use Rattle.pulses.specs.Pulses.{shortRow, rowAfter}
-use Rattle.board.specs.Halves.{Halves}
+use Rattle.halves.specs.Halves.{Halves, dropped}
 use Rattle.board.specs.declared.Done.{Done}
-use Rattle.board.specs.declared.Settings.{Settings}
-use Rattle.board.specs.PowerUp.{poweredUp}
-use Rattle.board.specs.Calls.{Effect, doneOf, levelCall, passCall, connectCall, closeCall, collectCall, bytesCall, dropped, halvesAfter, roomsAfter}
+use Rattle.powerup.specs.declared.Settings.{Settings}
+use Rattle.powerup.specs.PowerUp.{poweredUp}
+use Rattle.board.specs.Calls.{Effect, doneOf, levelCall, passCall, connectCall, closeCall, collectCall, bytesCall, halvesAfter, roomsAfter}
 use Rattle.demand.specs.Plain.{Serving}
 use Rattle.demand.specs.Demand.{Said, waits, refused, did, Call, bytes, other, Answer, answer, Machine, Trace, View, final, trace, begins}
 

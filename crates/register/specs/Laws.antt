@@ -10,8 +10,8 @@ use Rattle.words.specs.Words.{numberAt}
 use Rattle.rows.specs.Rows.{word}
 use Rattle.framing.specs.Cut.{Got, keepAlive, stray, tooLong, frame}
 use Rattle.rows.specs.Places.{Board, clockRow, rowAt, inputAt, lineAt}
-use Rattle.board.specs.Halves.{halfAt}
-use Rattle.board.specs.Rooms.{roomAt}
+use Rattle.halves.specs.Halves.{halfAt}
+use Rattle.halves.specs.Rooms.{roomAt}
 use Rattle.board.specs.Calls.{Effect}
 use Rattle.demand.specs.Demand.{Call, bytes, other}
 use Rattle.register.specs.Box.{Event, level, pass, connect, close, collect, Held, served}

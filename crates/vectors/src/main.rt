@@ -2,11 +2,11 @@
 // What it must print is in `stdout`, taken from the documents (docs/VECTORS.md says which line from where).
 
 use board::Done;
-use board::InputSettings;
-use board::Settings;
 use framing::Fed;
 use framing::Half;
 use framing::Outcome;
+use powerup::InputSettings;
+use powerup::Settings;
 use rows::ROWS;
 
 fn text(s: &[u8]) {
@@ -340,7 +340,7 @@ fn power_up(board: &mut [[u64; 8]; ROWS]) {
         usageSetpoint: 0,
         alarm: false,
     };
-    board::power_up(
+    powerup::power_up(
         board,
         Settings {
             inputs: [input; 8],

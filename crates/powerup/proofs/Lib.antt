@@ -1,0 +1,2 @@
+pub mod PowerUp
+pub mod Unique
