@@ -1,4 +1,4 @@
--- The level of an input. Document 01, "Events besides bytes".
+-- The level of an input: 01, Events, 1.
 use mathlib.Core.Bool.{Bool, Bool·beq, false, cond, _&&_}
 use Prim.Native.Nat.{ℕ}
 use lib.Dec.{eqb, ltb}

@@ -20,7 +20,7 @@ pub struct Changed {
     pub changed: bool,
 }
 
-// Nothing is changed: 11, of a channel, a level or flags out of range.
+// Out of range, 11: nothing is changed.
 pub fn refuse() -> Changed
     ensures { λ r. ⌜ r ≡ noChange ⌝ }
 {
@@ -97,7 +97,7 @@ pub fn level(board: &mut [[u64; 8]; ROWS], input: u8, level: u8) -> Changed
     edit_input(board, input as u16, InputEdit::Tell(on))
 }
 
-// The actions of a Command message that have a channel: 1 close, 2 open, 3 toggle, 5 clear input count, 8 clear input usage, 9 clear relay usage.
+// The actions of a Command message that have a channel, in the order of their numbers: 1, 2, 3, 5, 8 and 9.
 pub fn close_relay(board: &mut [[u64; 8]; ROWS], channel: u16) -> Changed
     ensures { λ r. ⌜ Makes (closeRelay channel (now (board .entry))) (now (board .exit)) r ⌝ }
 {

@@ -11,39 +11,39 @@ use Rattle.edits.specs.declared.InputEdit.the-variants as input
 use Rattle.edits.specs.declared.RelayEdit.{RelayEdit}
 use Rattle.edits.specs.declared.RelayEdit.the-variants as relay
 
--- "Off to on adds one to the count, which stays at 4294967295 once there."
+-- 01, Events, 1: a rise counts one more, up to 4294967295
 abbrev pub raised : Bool → Bool → ℕ → ℕ
 raised before after count = cond (not before && after) (min (count + 1) 4294967295) count
 
--- an input that is told its level
+-- 01, Events, 1: an input that is told its level
 unfoldable pub told : Bool → Input → Input
 told on i = leveled on (counted (raised (i .level) on (i .count)) i)
 
--- "3 toggle", of one relay
+-- 01, Messages, 10, 2: action 3, of one relay
 abbrev pub toggled : Relay → Relay
 toggled r = switched (not (r .closed)) r
 
--- "Input flags 1 reset count, 2 write count; with 1 and 2 together the written count stands"
+-- 01, Messages, 23, 4: flag 2 writes the count and stands over flag 1, which resets it
 abbrev pub countWritten : ℕ → ℕ → ℕ → ℕ
 countWritten flags count was = cond (hasFlag flags 2) count (cond (hasFlag flags 1) 0 was)
 
--- ".. 4 reset usage": an input after an entry
+-- 01, Messages, 23, 4: an input after an entry; flag 4 resets its usage
 unfoldable pub inputWritten : ℕ → ℕ → Input → Input
 inputWritten flags count i = counted (countWritten flags count (i .count)) (inputUsed (cond (hasFlag flags 4) 0 (i .usage)) i)
 
--- "Relay flags 1 state": 0 open, 1 closed
+-- 01, Messages, 23, 5: flag 1 writes the state, 0 open and 1 closed
 abbrev pub stateWritten : ℕ → ℕ → Bool → Bool
 stateWritten flags state was = cond (hasFlag flags 1) (eqb state 1) was
 
--- ".. 2 reset usage": a relay after an entry
+-- 01, Messages, 23, 5: a relay after an entry; flag 2 resets its usage
 unfoldable pub relayWritten : ℕ → ℕ → Relay → Relay
 relayWritten flags state r = switched (stateWritten flags state (r .closed)) (relayUsed (cond (hasFlag flags 2) 0 (r .usage)) r)
 
--- "a flag is unknown, or a written relay state is above 1": the flags of a relay are 1 and 2
+-- 01, Messages, 23, 3: a flag besides 1 and 2, or a state above 1 that is to be written
 abbrev pub relayFails : ℕ → ℕ → Bool
 relayFails flags state = ltb 3 flags || (hasFlag flags 1 && ltb 1 state)
 
--- "Level of input k", actions 5 and 8, an entry's flags
+-- a level, actions 5 and 8, an entry's flags
 abbrev pub inputEdited : InputEdit → Input → Input
 inputEdited (input.Tell on) = told on
 inputEdited input.ClearCount = counted 0

@@ -132,7 +132,7 @@ pub fn edited_relay(mut r: Relay, edit: RelayEdit) -> Relay
     r
 }
 
-// A flag is unknown, or a state that is written is above 1. A state whose flag is not set is not used.
+// There is no such flag, or a state above 1 is to be written. A state whose flag is not set is not used.
 pub fn relay_fails(flags: u8, state: u8) -> bool
     ensures { λ r. ⌜ r ≡ relayFails flags state ⌝ }
 {

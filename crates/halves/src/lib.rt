@@ -71,7 +71,7 @@ pub fn keep_half(halves: &mut [[u64; 3]; 4], c: usize, o: Outcome)
     put_half(halves, c, half_after(o));
 }
 
-// Where an opening or a closing of c succeeded, its half-read message is dropped.
+// Where an opening or a closing of c succeeded, nothing of its half-read message is left.
 pub fn drop_half(halves: &mut [[u64; 3]; 4], c: u8, answer: u8)
     ensures { λ u. ⌜ now (halves .exit) ≡ dropped c answer (now (halves .entry)) ⌝ }
 {
