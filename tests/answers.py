@@ -1,4 +1,4 @@
-"""The answer numbers by name, as in host/wellacorn.h.  What Python means by an answer stands here alone; tests/numbers.py holds it
+"""The answer numbers by name, as in host/wellacorn.h.  What Python means by an answer stands here alone; tests/answer_numbers.py holds it
 to the header and to the crate `answers`.
 
 With each its place: a line of 01's table "Answer numbers", or 02.
