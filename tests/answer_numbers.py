@@ -1,5 +1,5 @@
 #!/usr/bin/env python3
-"""Holds the answer numbers to each other wherever they are written: Python (tests/answers.py), the C header and the crate `answers`, its code
+"""Holds the answer numbers to each other wherever they are written: Python (tests/answers.py), the C header and the crate `numbers`, its code
 and its definitions.  Prints one line, and exits 1 if a file is missing or a name or number is not the same in all."""
 
 import os
@@ -24,8 +24,8 @@ def definition_name(name):
 # Of each file the pattern of a name and its number, and that name as Python has it.  In the header the answers are an enum of their own.
 PLACES = (
     ("host/wellacorn.h", r"^\s*(WELLACORN_\w+) = (\d+)\b", c_name),
-    ("crates/answers/src/lib.rt", r"^pub const (\w+): u8 = (\d+);", str),
-    ("crates/answers/specs/Numbers.antt", r"^abbrev pub (\w+) : ℕ\n\1 = (\d+)$", definition_name),
+    ("crates/numbers/src/lib.rt", r"^pub const (\w+): u8 = (\d+);", str),
+    ("crates/numbers/specs/Numbers.antt", r"^abbrev pub (\w+) : ℕ\n\1 = (\d+)$", definition_name),
 )
 
 

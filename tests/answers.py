@@ -1,5 +1,5 @@
 """The answer numbers by name, as in host/wellacorn.h.  What Python means by an answer stands here alone; tests/answer_numbers.py holds it
-to the header and to the crate `answers`.
+to the header and to the crate `numbers`.
 
 With each its place: a line of 01's table "Answer numbers", or 02.
 """
