@@ -4,12 +4,12 @@
 
 ghost use mathlib.Core.Path.{_≡_};
 ghost use lib.ListN.{length};
-ghost use Rattle.pulses.specs.Pulses.{rowAfter};
+ghost use Rattle.ring.specs.Ring.{rowAfter};
 ghost use Rattle.board.specs.PowerUp.{poweredUp};
 ghost use Rattle.board.specs.Calls.{levelCall, passCall, passedIn, connectCall, closeCall, collectCall, bytesCall, dropped, halvesAfter, roomsAfter, Ends, Answers};
 use board::Done;
 use board::Settings;
-use pulses::Pulse;
+use ring::Pulse;
 use rows::ROWS;
 
 // The box at power-up, with what the host sets.

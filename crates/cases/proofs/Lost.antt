@@ -13,7 +13,7 @@ use Rattle.rows.specs.Places.{lineAt, putLine, onRows, queueOf}
 use Rattle.plain.specs.Lines.{openedLine}
 use Rattle.plain.specs.Events.{connected, closed}
 use Rattle.serving.specs.Serving.{servedMessage}
-use Rattle.pulses.specs.Pulses.{rowAfter}
+use Rattle.ring.specs.Ring.{rowAfter}
 use Rattle.board.specs.PowerUp.{poweredUp}
 use Rattle.board.specs.Halves.{Halves, halfAt, putHalf}
 use Rattle.board.specs.Calls.{connectCall, closeCall, bytesCall, halvesAfter, roomsAfter}

@@ -27,7 +27,7 @@ use Rattle.marks.specs.Marks.{markedRow, marked}
 use Rattle.plain.specs.Events.{leveled, connected, monitorSent, collected}
 use Rattle.serving.specs.Obeying.{monitorSet, obeyed}
 use Rattle.serving.specs.Serving.{servedContent, servedMessage}
-use Rattle.pulses.specs.Pulses.{rowAfter}
+use Rattle.ring.specs.Ring.{rowAfter}
 use Rattle.board.specs.PowerUp.{poweredUp}
 use Rattle.board.specs.Halves.{halfAt, putHalf}
 use Rattle.board.specs.Calls.{levelCall, connectCall, collectCall, bytesCall, halvesAfter, roomsAfter}

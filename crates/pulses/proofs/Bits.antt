@@ -1,5 +1,4 @@
 -- The relays' states as bits.
---     weight         a shifted 1 is a power of 2
 --     states-small   the states of n relays have n bits
 --     bit-added      a weight added above a bit leaves it;   bit-top   and is the next bit of what is smaller
 --     states-bit     each bit is its relay's state
@@ -16,9 +15,6 @@ use Rattle.laws.proofs.Tests.{by-cases}
 use Rattle.rows.specs.Places.{Board, relayAt}
 use Rattle.laws.specs.Bits.{bitOf}
 use Rattle.pulses.specs.Pulses.{statesBelow, statesOf}
-
-pub weight : (k w : ℕ) → k < w → 1 * 2 ^ k % 2 ^ w ≡ 2 ^ k
-weight k w h = shl-exact {a = 1} 1 k w (lit< tt) (omega arith) ∙ one-mul (2 ^ k)
 
 one-more : (n s : ℕ) (closed : Bool) → s < 2 ^ n → s + cond closed (2 ^ n) 0 < 2 ^ suc n
 one-more n s true h = omega (arith, pow-suc 2 n)

@@ -16,8 +16,9 @@ use Rattle.framing.specs.Reading.{start, gotOf, halfAfter}
 use Rattle.framing.proofs.Turns.{length-run}
 use Rattle.rows.specs.Rows.{lineIn, lineWords, shutLine}
 use Rattle.rows.specs.Places.{Board, isConnection, rowAt, lineAt, putLine, linePlace, queueOf}
-use Rattle.pulses.specs.declared.Pulse.{Pulse}
-use Rattle.pulses.specs.Pulses.{shortRow, rowAfter}
+use Rattle.ring.specs.declared.Pulse.{Pulse}
+use Rattle.pulses.specs.Pulses.{shortRow}
+use Rattle.ring.specs.Ring.{rowAfter}
 use Rattle.plain.specs.Lines.{openedLine, isOpen}
 use Rattle.plain.specs.Events.{tooShort, connected, closed}
 use Rattle.board.specs.Halves.{Halves, halfAt, putHalf}

@@ -13,7 +13,8 @@ use Rattle.framing.specs.Cut.{Got}
 use Rattle.framing.specs.Reading.{start, Run, gotOf, halfAfter}
 use Rattle.framing.proofs.Turns.{length-run}
 use Rattle.rows.specs.declared.Line.{Line}
-use Rattle.pulses.specs.Pulses.{shortRow, rowAfter}
+use Rattle.pulses.specs.Pulses.{shortRow}
+use Rattle.ring.specs.Ring.{rowAfter}
 use Rattle.plain.specs.Lines.{isOpen}
 use Rattle.plain.specs.Events as plain
 use Rattle.plain.specs.Events.{Did, tooShort, connected, closed}

@@ -24,8 +24,9 @@ use Rattle.framing.specs.Cut.{Got, frame}
 use Rattle.framing.specs.Reading.{Run, gotOf}
 use Rattle.rows.specs.Rows.{word}
 use Rattle.rows.specs.Places.{Board, rowAt, lineAt, clockSet, clockRow}
-use Rattle.pulses.specs.declared.Pulse.{Pulse}
-use Rattle.pulses.specs.Pulses.{shortRow, elapsed, rowAfter}
+use Rattle.ring.specs.declared.Pulse.{Pulse}
+use Rattle.pulses.specs.Pulses.{shortRow, elapsed}
+use Rattle.ring.specs.Ring.{rowAfter}
 use Rattle.layouts.specs.declared.Order.{Order}
 use Rattle.layouts.specs.declared.Order.the-variants.{Refused, SetClock}
 use Rattle.layouts.specs.Layouts.{judgeSetClock}

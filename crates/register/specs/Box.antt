@@ -9,8 +9,9 @@ use Rattle.plain.specs.Lines.{isOpen}
 use Rattle.plain.specs.Events.{Did, tooShort, leveled, timePassed, connected, closed, collected}
 use Rattle.serving.specs.Serving.{servedMessage}
 use Rattle.rows.specs.Places.{Board}
-use Rattle.pulses.specs.declared.Pulse.{Pulse}
-use Rattle.pulses.specs.Pulses.{shortRow, rowAfter}
+use Rattle.ring.specs.declared.Pulse.{Pulse}
+use Rattle.pulses.specs.Pulses.{shortRow}
+use Rattle.ring.specs.Ring.{rowAfter}
 use Rattle.board.specs.Halves.{Halves}
 use Rattle.board.specs.declared.Done.{Done}
 use Rattle.board.specs.declared.Settings.{Settings}

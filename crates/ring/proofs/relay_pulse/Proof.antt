@@ -1,13 +1,13 @@
--- `pulses::relay_pulse`: a channel, or none.
+-- `ring::relay_pulse`: a channel, or none.
 use Prim.Native.Nat.{_-_}
 use mathlib.Core.Path.{sym, _∙_}
 use native.Mathlib.Omega.{arith}
 use Rattle.rows.proofs.Channel.{in-range}
-use Rattle.pulses.specs.Pulses.{relayPulse}
-use Rattle.pulses.proofs.Bits.{weight}
+use Rattle.ring.specs.Ring.{relayPulse}
+use Rattle.ring.proofs.Weight.{weight}
 use borrow.Author.Needs.{needs}
-use Rattle.pulses.proofs.relay_pulse.Statement.{statement}
-use Rattle.pulses.proofs.relay_pulse.Tie as tie
+use Rattle.ring.proofs.relay_pulse.Statement.{statement}
+use Rattle.ring.proofs.relay_pulse.Tie as tie
 
 pub relay-pulse-spec : {M : Type 1} → statement M
 unfolding relayPulse

@@ -1,9 +1,9 @@
--- `pulses::seat`: a place, or none.
+-- `ring::seat`: a place, or none.
 use borrow.Author.Tests.{lt-ltb, le-ltb}
-use Rattle.pulses.specs.Pulses.{seatOf}
+use Rattle.ring.specs.Ring.{seatOf}
 use borrow.Author.Needs.{needs}
-use Rattle.pulses.proofs.seat.Statement.{statement}
-use Rattle.pulses.proofs.seat.Tie as tie
+use Rattle.ring.proofs.seat.Statement.{statement}
+use Rattle.ring.proofs.seat.Tie as tie
 
 pub seat-spec : {M : Type 1} → statement M
 unfolding seatOf

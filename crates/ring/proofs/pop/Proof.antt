@@ -1,7 +1,7 @@
--- `pulses::pop`.
+-- `ring::pop`.
 use borrow.Author.Needs.{needs}
-use Rattle.pulses.proofs.pop.Statement.{statement}
-use Rattle.pulses.proofs.pop.Tie as tie
+use Rattle.ring.proofs.pop.Statement.{statement}
+use Rattle.ring.proofs.pop.Tie as tie
 
 pub pop-spec : {M : Type 1} → statement M
 pop-spec =

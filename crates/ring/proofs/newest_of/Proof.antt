@@ -1,8 +1,8 @@
--- `pulses::newest_of`.
-use Rattle.pulses.specs.Pulses.{newest}
+-- `ring::newest_of`.
+use Rattle.ring.specs.Ring.{newest}
 use borrow.Author.Needs.{needs}
-use Rattle.pulses.proofs.newest_of.Statement.{statement}
-use Rattle.pulses.proofs.newest_of.Tie as tie
+use Rattle.ring.proofs.newest_of.Statement.{statement}
+use Rattle.ring.proofs.newest_of.Tie as tie
 
 pub newest-of-spec : {M : Type 1} → statement M
 unfolding newest
