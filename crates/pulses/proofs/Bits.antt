@@ -5,11 +5,11 @@
 use mathlib.Core.Path.{_≡_, refl, ap, _∙_}
 use mathlib.Core.Bool.{Bool, true, false, cond}
 use Prim.Native.Nat.{ℕ, zero, suc, _+_, _-_, _*_, _/_, _%_, _^_, _<_, _≤_, zero-le}
-use native.Mathlib.Nat.{one-mul, pow-suc, le-antisymm, div-eq-of-lt, add-div-right, add-mul-div-right, add-mul-mod-self-right}
+use native.Mathlib.Nat.{pow-suc, le-antisymm, div-eq-of-lt, add-div-right, add-mul-div-right, add-mul-mod-self-right}
 use native.Mathlib.Omega.{arith}
 use native.Mathlib.Numerals.{add-one}
 use lib.Dec.{lit<, eqb, ltb}
-use lib.Pow.{pow-pos, pow-add, shl-exact}
+use lib.Pow.{pow-pos, pow-add}
 use borrow.Author.Tests.{ltb-true, ltb-false}
 use Rattle.laws.proofs.Tests.{by-cases}
 use Rattle.rows.specs.Places.{Board, relayAt}

@@ -19,8 +19,8 @@ use Rattle.rows.specs.Places.{Board, isConnection, rowAt, lineAt, putLine, line
 use Rattle.ring.specs.declared.Pulse.{Pulse}
 use Rattle.pulses.specs.Pulses.{shortRow}
 use Rattle.ring.specs.Ring.{rowAfter}
-use Rattle.plain.specs.Lines.{openedLine, isOpen}
-use Rattle.plain.specs.Events.{tooShort, connected, closed}
+use Rattle.connections.specs.Lines.{openedLine, isOpen, connected, closed}
+use Rattle.plain.specs.Events.{tooShort}
 use Rattle.board.specs.Halves.{Halves, halfAt, putHalf}
 use Rattle.board.specs.Rooms.{roomAt, putRoom}
 use Rattle.board.specs.Calls.{dropped, answered, fed, fedCall, bytesCall, halvesAfter, roomsAfter}

@@ -26,7 +26,9 @@ use Rattle.laws.proofs.Tests.{by-cases}
 use Rattle.ring.specs.declared.Pulse.{Pulse}
 use Rattle.pulses.specs.Pulses.{shortRow}
 use Rattle.ring.specs.Ring.{rowAfter}
-use Rattle.plain.specs.Events.{Did, framed, leveled, timePassed, connected, closed, monitorSent}
+use Rattle.plain.specs.Events.{leveled, timePassed, monitorSent}
+use Rattle.connections.specs.Lines.{connected, closed}
+use Rattle.answers.specs.Calls.{Did, framed}
 use Rattle.serving.specs.Obeying.{obeyed}
 use Rattle.serving.specs.Serving.{servedContent, servedMessage}
 use Rattle.serving.proofs.Lengths as serving

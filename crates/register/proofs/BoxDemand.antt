@@ -17,7 +17,7 @@ use Rattle.rows.specs.Rows.{lineIn, shutLine}
 use Rattle.rows.specs.Places.{Board, isConnection, rowAt, lineAt, onRows, linePlace, firstInput, firstRelay, rows}
 use Rattle.rows.proofs.Range.{beyond}
 use Rattle.ring.specs.declared.Pulse.{Pulse}
-use Rattle.plain.specs.Lines.{isOpen}
+use Rattle.connections.specs.Lines.{isOpen}
 use Rattle.serving.specs.Serving.{servedMessage}
 use Rattle.board.specs.declared.Settings.{Settings}
 use Rattle.board.specs.PowerUp.{poweredUp}

@@ -37,7 +37,7 @@ use Rattle.ring.specs.declared.Pulse.{Pulse}
 use Rattle.pulses.specs.Pulses.{shortRow}
 use Rattle.ring.specs.Ring.{pulseOf, relayPulse, isFull}
 use Rattle.pulses.proofs.Keeping.{Keeps, elapsed-keeps, accepted-keeps}
-use Rattle.plain.specs.Lines.{openedLine}
+use Rattle.connections.specs.Lines.{openedLine}
 use Rattle.marks.specs.Marks.{watches, markedRow, marked}
 use Rattle.plain.specs.Events.{leveled, timePassed, monitorSent}
 use Rattle.serving.specs.Obeying.{monitorSet, clockTold, pulsed, obeyed}

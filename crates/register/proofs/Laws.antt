@@ -32,7 +32,9 @@ use Rattle.layouts.specs.declared.Order.the-variants.{Refused, SetClock}
 use Rattle.layouts.specs.Layouts.{judgeSetClock}
 use Rattle.orders.specs.Orders.{setClockOf, orderOf}
 use Rattle.marks.specs.Marks.{withDue}
-use Rattle.plain.specs.Events.{Did, did, refused, leveled, timePassed, connected, closed, monitorSent, collected}
+use Rattle.plain.specs.Events.{leveled, timePassed, monitorSent, collected}
+use Rattle.connections.specs.Lines.{connected, closed}
+use Rattle.answers.specs.Calls.{Did, did, refused}
 use Rattle.serving.specs.Obeying.{clockTold, obeyed}
 use Rattle.serving.specs.Serving.{servedContent, servedMessage}
 use Rattle.board.specs.Halves.{Halves, halfAt}

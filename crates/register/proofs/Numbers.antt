@@ -22,7 +22,8 @@ use Rattle.layouts.specs.declared.Order.the-variants.{Refused, Clock, Monitor, 
 use Rattle.orders.specs.Orders.{orderOf}
 use Rattle.orders.proofs.Orders.{Refusal, refusals}
 use Rattle.marks.specs.Marks.{marked}
-use Rattle.plain.specs.Events.{Did, refused, changedTo, leveled, sealing}
+use Rattle.plain.specs.Events.{changedTo, leveled}
+use Rattle.answers.specs.Calls.{Did, refused, sealing}
 use Rattle.serving.specs.Obeying.{monitorSet, clockTold, pulsed, obeyed}
 use Rattle.serving.specs.Serving.{servedContent, servedMessage}
 use Rattle.register.specs.Box.{beforeBytes}

@@ -27,7 +27,7 @@ use Rattle.ring.specs.declared.Pulse.{Pulse}
 use Rattle.pulses.specs.Pulses.{accepted}
 use Rattle.ring.specs.Ring.{pulseOf, relayPulse, runs, isFull, joined}
 use Rattle.pulses.proofs.Passing.{has-row, told-again}
-use Rattle.plain.specs.Lines.{openedLine}
+use Rattle.connections.specs.Lines.{openedLine}
 use Rattle.plain.specs.Events.{leveled, monitorSent}
 use Rattle.serving.specs.Obeying.{monitorSet, clockTold, pulsed, obeyed}
 use Rattle.serving.specs.Serving.{servedContent, servedMessage}

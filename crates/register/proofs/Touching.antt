@@ -26,7 +26,7 @@ use Rattle.ring.specs.declared.Pulse.{Pulse}
 use Rattle.pulses.specs.Pulses.{shortRow}
 use Rattle.ring.specs.Ring.{pulseOf, relayPulse, isFull}
 use Rattle.pulses.proofs.Keeping.{Keeps, elapsed-keeps, accepted-keeps}
-use Rattle.plain.specs.Lines.{isOpen}
+use Rattle.connections.specs.Lines.{isOpen}
 use Rattle.marks.specs.Marks.{withDue, watches, markedRow, marked}
 use Rattle.plain.specs.Events.{leveled, timePassed, monitorSent, collected}
 use Rattle.serving.specs.Obeying.{monitorSet, clockTold, pulsed, obeyed}

@@ -5,8 +5,9 @@ use mathlib.Core.Option.{Option, none, some}
 use Prim.Native.Nat.{ℕ}
 use lib.Dec.{eqb}
 use lib.ListN.{length, take}
-use Rattle.plain.specs.Lines.{isOpen}
-use Rattle.plain.specs.Events.{Did, tooShort, leveled, timePassed, connected, closed, collected}
+use Rattle.connections.specs.Lines.{isOpen, connected, closed}
+use Rattle.plain.specs.Events.{tooShort, leveled, timePassed, collected}
+use Rattle.answers.specs.Calls.{Did}
 use Rattle.serving.specs.Serving.{servedMessage}
 use Rattle.rows.specs.Places.{Board}
 use Rattle.ring.specs.declared.Pulse.{Pulse}
