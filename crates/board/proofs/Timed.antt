@@ -6,7 +6,7 @@ use Prim.Native.Nat.{ℕ}
 use lib.ListN.{length}
 use Rattle.laws.proofs.Tests.{by-cases}
 use Rattle.rows.specs.Places.{Board}
-use Rattle.pulses.specs.declared.Pulse.{Pulse}
+use Rattle.ring.specs.declared.Pulse.{Pulse}
 use Rattle.pulses.specs.declared.Time.{Time}
 use Rattle.pulses.specs.Pulses.{shortRow}
 use Rattle.pulses.proofs.Passing.{Passing, passing-done}

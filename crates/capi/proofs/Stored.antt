@@ -8,8 +8,8 @@ use lib.ListN.{length, set}
 use lib.Seq.{set-out}
 use Rattle.laws.proofs.Tests.{by-cases}
 use Rattle.rows.specs.Places.{Board, queueOf}
-use Rattle.pulses.specs.declared.Pulse.{Pulse}
-use Rattle.pulses.specs.Pulses.{seatOf, newest, rowAfter}
+use Rattle.ring.specs.declared.Pulse.{Pulse}
+use Rattle.ring.specs.Ring.{seatOf, newest, rowAfter}
 use Rattle.board.specs.declared.Taken.{Taken}
 
 -- the place behind the row's end takes no record

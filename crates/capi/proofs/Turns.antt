@@ -6,9 +6,9 @@ use Prim.Native.Nat.{ℕ, _<_}
 use lib.Dec.{T, eqb}
 use borrow.Author.Tests.{eqb-true}
 use Rattle.rows.specs.Places.{Board}
-use Rattle.pulses.specs.declared.Pulse.{Pulse}
+use Rattle.ring.specs.declared.Pulse.{Pulse}
 use Rattle.pulses.specs.declared.Time.{Time}
-use Rattle.pulses.specs.Pulses.{pulseAt}
+use Rattle.ring.specs.Ring.{pulseAt}
 use Rattle.pulses.specs.Passing.{Goes, turnOf}
 use Rattle.pulses.proofs.Passing.{Passing, waiting, passing-turn}
 use Rattle.board.specs.Calls.{passCall, passedIn, Ends}

@@ -5,8 +5,8 @@ use Prim.Native.Nat.{ℕ}
 use lib.ListN.{length}
 use denote.Ref.{now}
 use Rattle.rows.specs.Places.{Board}
-use Rattle.pulses.specs.declared.Pulse.{Pulse}
-use Rattle.pulses.specs.Pulses.{rowAfter}
+use Rattle.ring.specs.declared.Pulse.{Pulse}
+use Rattle.ring.specs.Ring.{rowAfter}
 use Rattle.board.specs.declared.Done.{Done}
 use Rattle.halves.specs.Halves.{Halves}
 use Rattle.board.specs.Calls.{Effect, passCall, passedIn, bytesCall, halvesAfter, roomsAfter, Ends, Answers}

@@ -4,13 +4,15 @@
 
 ghost use mathlib.Core.Path.{_≡_};
 ghost use lib.ListN.{length};
-ghost use Rattle.pulses.specs.Pulses.{rowAfter};
+ghost use Rattle.ring.specs.Ring.{rowAfter};
 ghost use Rattle.powerup.specs.PowerUp.{poweredUp};
 ghost use Rattle.halves.specs.Halves.{dropped};
 ghost use Rattle.board.specs.Calls.{levelCall, passCall, passedIn, connectCall, closeCall, collectCall, bytesCall, halvesAfter, roomsAfter, Ends, Answers};
 use board::Done;
 use powerup::Settings;
 use pulses::Pulse;
+use board::Settings;
+use ring::Pulse;
 use rows::ROWS;
 
 // The box at power-up, with what the host sets.

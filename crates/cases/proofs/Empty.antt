@@ -24,13 +24,13 @@ use Rattle.orders.specs.Orders.{commandOf, orderOf}
 use Rattle.replies.specs.Replies.{relaysOf}
 use Rattle.readings.specs.Readings.{monitorReply}
 use Rattle.rows.specs.Places.{isConnection, relayAt, lineAt, putRelay, putLine, onRows, queueOf}
-use Rattle.pulses.specs.declared.Pulse.{Pulse}
-use Rattle.plain.specs.Lines.{openedLine}
+use Rattle.ring.specs.declared.Pulse.{Pulse}
+use Rattle.connections.specs.Lines.{openedLine, connected}
 use Rattle.marks.specs.Marks.{markedRow, marked}
-use Rattle.plain.specs.Events.{connected, monitorSent, collected}
+use Rattle.plain.specs.Events.{monitorSent, collected}
 use Rattle.serving.specs.Obeying.{obeyed}
 use Rattle.serving.specs.Serving.{servedContent, servedMessage}
-use Rattle.pulses.specs.Pulses.{rowAfter}
+use Rattle.ring.specs.Ring.{rowAfter}
 use Rattle.powerup.specs.declared.Settings.{Settings}
 use Rattle.halves.specs.Halves.{Halves, halfIn, halfAt, putHalf}
 use Rattle.powerup.specs.PowerUp.{poweredUp}

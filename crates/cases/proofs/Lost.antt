@@ -10,10 +10,9 @@ use lib.ListN.{getD, replicate}
 use Rattle.laws.specs.Put.{put}
 use Rattle.framing.specs.Reading.{stepOf, firstOf, afterOf, roomOf, runOf}
 use Rattle.rows.specs.Places.{lineAt, putLine, onRows, queueOf}
-use Rattle.plain.specs.Lines.{openedLine}
-use Rattle.plain.specs.Events.{connected, closed}
+use Rattle.connections.specs.Lines.{openedLine, connected, closed}
 use Rattle.serving.specs.Serving.{servedMessage}
-use Rattle.pulses.specs.Pulses.{rowAfter}
+use Rattle.ring.specs.Ring.{rowAfter}
 use Rattle.powerup.specs.PowerUp.{poweredUp}
 use Rattle.halves.specs.Halves.{Halves, halfAt, putHalf}
 use Rattle.board.specs.Calls.{connectCall, closeCall, bytesCall, halvesAfter, roomsAfter}

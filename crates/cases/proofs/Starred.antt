@@ -22,12 +22,12 @@ use Rattle.readings.specs.Readings as readings
 use Rattle.replies.specs.Replies.{inputsOf, relaysOf}
 use Rattle.readings.specs.Readings.{inputRow, monitorReply, inputBlock, entryOf, idsIn, devicesReply}
 use Rattle.writes.specs.Writes.{deviceDone, writtenFrom}
-use Rattle.plain.specs.Lines.{openedLine}
+use Rattle.connections.specs.Lines.{openedLine, connected}
 use Rattle.marks.specs.Marks.{markedRow, marked}
-use Rattle.plain.specs.Events.{leveled, connected, monitorSent, collected}
+use Rattle.plain.specs.Events.{leveled, monitorSent, collected}
 use Rattle.serving.specs.Obeying.{monitorSet, obeyed}
 use Rattle.serving.specs.Serving.{servedContent, servedMessage}
-use Rattle.pulses.specs.Pulses.{rowAfter}
+use Rattle.ring.specs.Ring.{rowAfter}
 use Rattle.powerup.specs.PowerUp.{poweredUp}
 use Rattle.halves.specs.Halves.{halfAt, putHalf}
 use Rattle.board.specs.Calls.{levelCall, connectCall, collectCall, bytesCall, halvesAfter, roomsAfter}

@@ -2,7 +2,7 @@
 use mathlib.Core.Path.{_≡_}
 use mathlib.Core.List.{List, []}
 use Prim.Native.Nat.{ℕ, _≤_}
-use Rattle.pulses.specs.declared.Pulse.{Pulse}
+use Rattle.ring.specs.declared.Pulse.{Pulse}
 use Rattle.powerup.specs.declared.Settings.{Settings}
 use Rattle.powerup.specs.PowerUp.{poweredUp}
 use Rattle.demand.specs.Demand.{Said, waits, refused, did, Call, Machine, final}

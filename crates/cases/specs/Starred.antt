@@ -5,8 +5,8 @@ use Prim.Native.Nat.{ℕ, _+_, _*_}
 use lib.ListN.{length, getD, replicate}
 use Rattle.rows.specs.declared.Relay.{Relay}
 use Rattle.rows.specs.Places.{Board, inputAt, lineAt}
-use Rattle.pulses.specs.declared.Pulse.{Pulse}
-use Rattle.pulses.specs.Pulses.{pulseOf}
+use Rattle.ring.specs.declared.Pulse.{Pulse}
+use Rattle.ring.specs.Ring.{pulseOf}
 use Rattle.replies.specs.Replies.{relaysOf}
 use Rattle.powerup.specs.declared.Settings.{Settings}
 use Rattle.demand.specs.Demand.{Call, bytes, other}

@@ -8,7 +8,7 @@ use lib.ListN.{length, take}
 use lib.Seq.{take-at}
 use Rattle.laws.specs.Put.{put}
 use Rattle.laws.proofs.Put.{length-put, put-front, put-none}
-use Rattle.plain.specs.Events.{refused}
+use Rattle.answers.specs.Calls.{refused}
 use Rattle.rows.specs.Places.{Board}
 use Rattle.board.specs.declared.Done.{Done}
 use Rattle.halves.specs.Halves.{Halves}

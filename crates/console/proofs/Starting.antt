@@ -2,7 +2,7 @@
 use mathlib.Core.Path.{_≡_, refl}
 use lib.ListN.{replicate}
 use Rattle.rows.specs.Places.{lineAt, onRows}
-use Rattle.plain.specs.Events.{connected}
+use Rattle.connections.specs.Lines.{connected}
 use Rattle.powerup.specs.PowerUp.{blankSettings, poweredUp}
 use Rattle.board.specs.Calls.{connectCall}
 

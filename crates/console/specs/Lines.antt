@@ -4,7 +4,7 @@ use mathlib.Core.List.{List, [], _∷_, _++_}
 use mathlib.Core.Option.{Option, none, some}
 use Prim.Native.Nat.{ℕ}
 use lib.Dec.{eqb}
-use Rattle.plain.specs.Events.{refused}
+use Rattle.answers.specs.Calls.{refused}
 use Rattle.framing.specs.Reading.{start}
 use Rattle.rows.specs.Places.{Board}
 use Rattle.replies.specs.Replies.{relaysOf}

@@ -4,8 +4,8 @@ use mathlib.Core.List.{List, [], _∷_}
 use Prim.Native.Nat.{ℕ, zero, suc, _≤_}
 use native.Mathlib.Nat.{not-suc-le-zero, le-of-suc-le-suc}
 use lib.ListN.{length, set}
-use Rattle.pulses.specs.declared.Pulse.{Pulse}
-use Rattle.pulses.specs.Pulses.{pulseOf, pulseAt}
+use Rattle.ring.specs.declared.Pulse.{Pulse}
+use Rattle.ring.specs.Ring.{pulseOf, pulseAt}
 
 -- what stands for a record that is not there
 abbrev pub noPulse : Pulse

@@ -3,8 +3,8 @@ use mathlib.Core.Path.{_≡_, sym, _∙_}
 use mathlib.Core.List.{List}
 use Prim.Native.Nat.{ℕ}
 use lib.ListN.{set}
-use Rattle.pulses.specs.declared.Pulse.{Pulse}
-use Rattle.pulses.specs.Pulses.{pulseAt}
+use Rattle.ring.specs.declared.Pulse.{Pulse}
+use Rattle.ring.specs.Ring.{pulseAt}
 
 -- the contract of `lent::pulse_at`, written out: its proof is a walk, which gives it no name
 pub unique-pulse-at : (row : List Pulse) (i : ℕ) {r r′ : Pulse} → r ≡ pulseAt row i → r′ ≡ pulseAt row i → r ≡ r′

@@ -3,8 +3,8 @@
 
 ghost use mathlib.Core.Path.{_≡_};
 ghost use lib.ListN.{set};
-ghost use Rattle.pulses.specs.Pulses.{pulseAt};
-use pulses::Pulse;
+ghost use Rattle.ring.specs.Ring.{pulseAt};
+use ring::Pulse;
 
 // The record at a place of the row.
 pub fn pulse_at(row: &[Pulse], i: usize) -> Pulse

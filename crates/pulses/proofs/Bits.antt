@@ -1,24 +1,20 @@
 -- The relays' states as bits.
---     weight         a shifted 1 is a power of 2
 --     states-small   the states of n relays have n bits
 --     bit-added      a weight added above a bit leaves it;   bit-top   and is the next bit of what is smaller
 --     states-bit     each bit is its relay's state
 use mathlib.Core.Path.{_≡_, refl, ap, _∙_}
 use mathlib.Core.Bool.{Bool, true, false, cond}
 use Prim.Native.Nat.{ℕ, zero, suc, _+_, _-_, _*_, _/_, _%_, _^_, _<_, _≤_, zero-le}
-use native.Mathlib.Nat.{one-mul, pow-suc, le-antisymm, div-eq-of-lt, add-div-right, add-mul-div-right, add-mul-mod-self-right}
+use native.Mathlib.Nat.{pow-suc, le-antisymm, div-eq-of-lt, add-div-right, add-mul-div-right, add-mul-mod-self-right}
 use native.Mathlib.Omega.{arith}
 use native.Mathlib.Numerals.{add-one}
 use lib.Dec.{lit<, eqb, ltb}
-use lib.Pow.{pow-pos, pow-add, shl-exact}
+use lib.Pow.{pow-pos, pow-add}
 use borrow.Author.Tests.{ltb-true, ltb-false}
 use Rattle.laws.proofs.Tests.{by-cases}
 use Rattle.rows.specs.Places.{Board, relayAt}
 use Rattle.laws.specs.Bits.{bitOf}
 use Rattle.pulses.specs.Pulses.{statesBelow, statesOf}
-
-pub weight : (k w : ℕ) → k < w → 1 * 2 ^ k % 2 ^ w ≡ 2 ^ k
-weight k w h = shl-exact {a = 1} 1 k w (lit< tt) (omega arith) ∙ one-mul (2 ^ k)
 
 one-more : (n s : ℕ) (closed : Bool) → s < 2 ^ n → s + cond closed (2 ^ n) 0 < 2 ^ suc n
 one-more n s true h = omega (arith, pow-suc 2 n)

@@ -10,8 +10,9 @@ use Rattle.rows.specs.Places.{Board, queueRow, queueOf, putQueue, leftSet}
 use Rattle.tables.specs.Time.{passed}
 use Rattle.changes.specs.Commands.{blockOf}
 use Rattle.marks.specs.Marks.{marked}
-use Rattle.pulses.specs.declared.Pulse.{Pulse}
-use Rattle.pulses.specs.Pulses.{runs, endsWithin, switched, begun, ended, turned, waited, tick, elapsed, accepted}
+use Rattle.ring.specs.declared.Pulse.{Pulse}
+use Rattle.pulses.specs.Pulses.{endsWithin, switched, begun, ended, turned, waited, tick, elapsed, accepted}
+use Rattle.ring.specs.Ring.{runs}
 
 pub record Keeps (P : Board → Type 0) : Type 0 where
   pub time : (d : ℕ) (b : Board) → P b → P (passed d b)

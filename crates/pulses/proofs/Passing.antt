@@ -17,9 +17,10 @@ use Rattle.rows.specs.Rows.{queueIn, queueWords}
 use Rattle.rows.specs.Places.{Board, rowAt, queueRow, queueOf, putQueue}
 use Rattle.rows.proofs.Channel.{and-left, and-right}
 use Rattle.tables.specs.Time.{passed}
-use Rattle.pulses.specs.declared.Pulse.{Pulse}
+use Rattle.ring.specs.declared.Pulse.{Pulse}
 use Rattle.pulses.specs.declared.Time.{Time}
-use Rattle.pulses.specs.Pulses.{pulseAt, shortRow, place, runs, standing, lasts, endsWithin, statesOf, beginning, begun, popped, ended, followed, turned, waited, elapsed}
+use Rattle.pulses.specs.Pulses.{shortRow, lasts, endsWithin, statesOf, beginning, begun, ended, followed, turned, waited, elapsed}
+use Rattle.ring.specs.Ring.{pulseAt, place, runs, standing, popped}
 use Rattle.pulses.specs.Passing.{over, onward, startOf, turnOf, Goes}
 use Rattle.pulses.proofs.Apart.{queue-passed, queue-switched}
 use Rattle.pulses.proofs.Ticks.{left-told, quiet, jump}

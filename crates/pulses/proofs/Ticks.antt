@@ -21,8 +21,9 @@ use Rattle.rows.specs.Places.{Board, rowAt, queueRow, queueOf, putQueue, leftSe
 use Rattle.rows.proofs.Channel.{and-left, and-right}
 use Rattle.tables.specs.Time.{passed}
 use Rattle.tables.proofs.Theorems.{passed-flow}
-use Rattle.pulses.specs.declared.Pulse.{Pulse}
-use Rattle.pulses.specs.Pulses.{pulseAt, place, runs, lasts, endsWithin, ended, followed, turned, waited, tick}
+use Rattle.ring.specs.declared.Pulse.{Pulse}
+use Rattle.pulses.specs.Pulses.{lasts, endsWithin, ended, followed, turned, waited, tick}
+use Rattle.ring.specs.Ring.{pulseAt, place, runs}
 use Rattle.pulses.proofs.Apart.{queue-passed, left-passed}
 
 -- ---- the ms left, set anew

@@ -1,11 +1,7 @@
 -- For one input, two answers that a contract allows are equal, and so are the boards after them.
 use mathlib.Core.Path.{_≡_, sym, _∙_}
 use denote.Ref.{now}
-use Rattle.pulses.proofs.relay_pulse.Reads as relay-pulse
-use Rattle.pulses.proofs.block_pulse.Reads as block-pulse
 use Rattle.pulses.proofs.push.Reads as push
-use Rattle.pulses.proofs.newest_of.Reads as newest-of
-use Rattle.pulses.proofs.seat.Reads as seat
 use Rattle.pulses.proofs.at_once.Reads as at-once
 use Rattle.pulses.proofs.time_of.Reads as time-of
 use Rattle.pulses.proofs.going.Reads as going
@@ -14,20 +10,8 @@ use Rattle.pulses.proofs.next_of.Reads as next-of
 use Rattle.pulses.proofs.answer_of.Reads as answer-of
 use Rattle.pulses.proofs.turn.Reads as turn
 
-pub unique-relay-pulse : (κs : _) (a : _) (r r′ : _) (s s′ : _) → relay-pulse.Post κs a r s → relay-pulse.Post κs a r′ s′ → r ≡ r′
-unique-relay-pulse κs a r r′ s s′ p q = p ∙ sym q
-
-pub unique-block-pulse : (κs : _) (a : _) (r r′ : _) (s s′ : _) → block-pulse.Post κs a r s → block-pulse.Post κs a r′ s′ → r ≡ r′
-unique-block-pulse κs a r r′ s s′ p q = p ∙ sym q
-
 pub unique-push : (κs : _) (a : _) (r r′ : _) (s s′ : _) → push.Post κs a r s → push.Post κs a r′ s′ → (r ≡ r′) × (now (s .0) ≡ now (s′ .0))
 unique-push κs a r r′ s s′ p q = (p .1 ∙ sym (q .1), p .0 ∙ sym (q .0))
-
-pub unique-newest-of : (κs : _) (a : _) (r r′ : _) (s s′ : _) → newest-of.Post κs a r s → newest-of.Post κs a r′ s′ → r ≡ r′
-unique-newest-of κs a r r′ s s′ p q = p ∙ sym q
-
-pub unique-seat : (κs : _) (a : _) (r r′ : _) (s s′ : _) → seat.Post κs a r s → seat.Post κs a r′ s′ → r ≡ r′
-unique-seat κs a r r′ s s′ p q = p ∙ sym q
 
 pub unique-at-once : (κs : _) (a : _) (r r′ : _) (s s′ : _) → at-once.Post κs a r s → at-once.Post κs a r′ s′ → (r ≡ r′) × (now (s .0) ≡ now (s′ .0))
 unique-at-once κs a r r′ s s′ p q = let same = p .1 ∙ sym (q .1) in (same, p .0 ∙ rw same (sym (q .0)))

@@ -5,9 +5,10 @@ use Prim.Native.Nat.{ℕ, _-_, min}
 use Rattle.rows.specs.declared.Queue.{Queue}
 use Rattle.rows.specs.Places.{Board, queueOf}
 use Rattle.tables.specs.Time.{passed}
-use Rattle.pulses.specs.declared.Pulse.{Pulse}
+use Rattle.ring.specs.declared.Pulse.{Pulse}
 use Rattle.pulses.specs.declared.Time.{Time}
-use Rattle.pulses.specs.Pulses.{shortRow, place, lasts, endsWithin, turned, waited}
+use Rattle.pulses.specs.Pulses.{shortRow, lasts, endsWithin, turned, waited}
+use Rattle.ring.specs.Ring.{place}
 
 -- the board as far as time has passed, and what the call has still to do
 pub record Going : Type 0 where

@@ -1,25 +1,18 @@
-// Pulsed relays: what a pulse is, its beginning and end, the queue as a ring of 31 places, and passing time.
+// Pulsed relays: a pulse's beginning and end, a request, and passing time.
 // The pulses' records stand in a lent row, which this crate never sees: what it needs of it comes by value, and a request that is accepted is
-// kept in the board until it is written there. Takes every board, nonsense words too: of a number of pulses above 31, 31 stand; the first
-// stands at the rest of its place by 31; a pulse with no ms left ends in the next ms.
+// kept in the board until it is written there. Takes every board, nonsense words too; a pulse with no ms left ends in the next ms.
 
 ghost use mathlib.Core.Path.{_≡_};
 ghost use mathlib.Core.Bool.{cond};
 ghost use Prim.Native.Nat.{_+_, _-_, _<_, _^_, min};
 ghost use lib.Dec.{eqb};
 ghost use Rattle.rows.specs.Places.{relayAt, queueOf, leftSet};
-ghost use Rattle.pulses.specs.Pulses.{pulseOf, relayPulse, shortRow, standing, isFull, runs, place, statesOf, switched, beginning, begun, popped, ended, followed, lasts, endsWithin, waited, joined, accepted, newest, seatOf};
-ghost use Rattle.pulses.specs.Passing.{onward, startOf, turnOf, over, until, Goes};
+ghost use Rattle.ring.specs.Ring.{isFull, runs};
+ghost use Rattle.pulses.specs.Pulses.{shortRow, statesOf, switched, begun, ended, followed, lasts, endsWithin, waited, accepted};
+ghost use Rattle.pulses.specs.Passing.{onward, startOf, turnOf, over, Goes};
+use ring::Pulse;
 use rows::Queue;
 use rows::ROWS;
-
-// The masked relays take these states for so many ms.
-#[repr(C)]
-pub struct Pulse {
-    pub mask: u16,
-    pub states: u16,
-    pub duration: u32,
-}
 
 // How far a call of time has come: the ms that are left, the running pulse's place in the row and that of the next, the call's answer, and
 // whether the running pulse ends within those ms. Where none does, all have passed.
@@ -33,55 +26,6 @@ pub struct Time {
 
 // ---- requests
 
-// Action 6: relay k is closed for so many ms.
-pub fn relay_pulse(k: u16, duration: u32) -> Pulse
-    ensures { λ r. ⌜ r ≡ relayPulse k duration ⌝ }
-{
-    let mut mask: u16 = 0;
-    if rows::is_channel(k as usize) {
-        mask = 1 << (k - 1);
-    }
-    Pulse {
-        mask,
-        states: mask,
-        duration,
-    }
-}
-
-// Action 7: the masked relays take these states for so many ms; a mask of a byte names relays 1 to 8.
-pub fn block_pulse(mask: u8, states: u8, duration: u32) -> Pulse
-    ensures { λ r. ⌜ r ≡ pulseOf mask states duration ⌝ }
-{
-    Pulse {
-        mask: mask as u16,
-        states: states as u16,
-        duration,
-    }
-}
-
-// A place of the ring: the k-th behind the first.
-fn place_in(q: Queue, k: u64) -> usize
-    ensures { λ r. ⌜ r ≡ place q k ⌝ }
-{
-    ((q.first % 31 + k % 31) % 31) as usize
-}
-
-// The queue with a request more, behind the last.
-fn join(q: Queue, p: Pulse) -> Queue
-    requires { ⌜ q .standing < 31 ⌝ }
-    ensures { λ r. ⌜ r ≡ joined p q ⌝ }
-{
-    Queue {
-        first: q.first,
-        standing: q.standing + 1,
-        left: q.left,
-        remembered: q.remembered,
-        mask: p.mask as u64,
-        states: p.states as u64,
-        duration: p.duration as u64,
-    }
-}
-
 // A pulse is asked for: 14 where 31 stand. Where no other runs it begins here.
 pub fn push(board: &mut [[u64; 8]; ROWS], p: Pulse) -> u8
     ensures { λ r. ⌜ now (board .exit) ≡ cond (isFull (queueOf (now (board .entry)))) (now (board .entry)) (accepted p (now (board .entry))) ⌝ }
@@ -91,33 +35,11 @@ pub fn push(board: &mut [[u64; 8]; ROWS], p: Pulse) -> u8
     if 31 <= q.standing {
         return 14;
     }
-    rows::put_queue(board, join(q, p));
+    rows::put_queue(board, ring::join(q, p));
     if q.standing == 0 {
         begin(board, p);
     }
     1
-}
-
-// The request that was accepted last, as it goes into the row.
-pub fn newest_of(board: &[[u64; 8]; ROWS]) -> Pulse
-    ensures { λ r. ⌜ r ≡ newest (now (board .entry)) ⌝ }
-{
-    let q = rows::queue_of(board);
-    Pulse {
-        mask: (q.mask % 0x1_0000) as u16,
-        states: (q.states % 0x1_0000) as u16,
-        duration: (q.duration % 0x1_0000_0000) as u32,
-    }
-}
-
-// Its place in a row of so many records, where more pulses stand than did before; else none, behind the row's end.
-pub fn seat(before: Queue, after: Queue, records: usize) -> usize
-    ensures { λ r. ⌜ r ≡ seatOf records before after ⌝ }
-{
-    if before.standing < after.standing {
-        return place_in(after, after.standing - 1);
-    }
-    records
 }
 
 // ---- a beginning and an end
@@ -171,40 +93,12 @@ fn begin(board: &mut [[u64; 8]; ROWS], p: Pulse)
     switch(board, p.mask, p.states);
 }
 
-// How many stand when the first is gone; of a number above 31, 31 stood.
-fn one_less(standing: u64) -> u64
-    ensures { λ r. ⌜ r ≡ min standing 31 - 1 ⌝ }
-{
-    if 31 < standing {
-        return 30;
-    }
-    if standing == 0 {
-        return 0;
-    }
-    standing - 1
-}
-
-// The first is gone.
-fn pop(q: Queue) -> Queue
-    ensures { λ r. ⌜ r ≡ popped q ⌝ }
-{
-    Queue {
-        first: place_in(q, 1) as u64,
-        standing: one_less(q.standing),
-        left: 0,
-        remembered: 0,
-        mask: q.mask,
-        states: q.states,
-        duration: q.duration,
-    }
-}
-
 // The running pulse, p, ends: the masked relays return to the states that they had at its beginning.
 fn end(board: &mut [[u64; 8]; ROWS], p: Pulse)
     ensures { λ u. ⌜ now (board .exit) ≡ ended p (now (board .entry)) ⌝ }
 {
     let q = rows::queue_of(board);
-    rows::put_queue(board, pop(q));
+    rows::put_queue(board, ring::pop(q));
     switch(board, p.mask, (q.remembered % 0x1_0000) as u16);
 }
 
@@ -286,8 +180,8 @@ fn go_on(board: &mut [[u64; 8]; ROWS], d: u32) -> Time
     if ends_within(q, d) {
         return Time {
             rest: d,
-            first: place_in(q, 0),
-            next: place_in(q, 1),
+            first: ring::place_in(q, 0),
+            next: ring::place_in(q, 1),
             answer: 1,
             ends: true,
         };

@@ -25,8 +25,9 @@ use Rattle.laws.specs.Bits.{bitOf}
 use Rattle.changes.specs.Commands.{masked, blocked, blockMoves, blockedRow, blockOf}
 use Rattle.changes.proofs.Making.{differ-same}
 use Rattle.marks.specs.Marks.{withDue, watches, markedRow, marked}
-use Rattle.pulses.specs.declared.Pulse.{Pulse}
-use Rattle.pulses.specs.Pulses.{statesOf, runs, switched, beginning, begun, popped, ended, turned}
+use Rattle.ring.specs.declared.Pulse.{Pulse}
+use Rattle.pulses.specs.Pulses.{statesOf, switched, beginning, begun, ended, turned}
+use Rattle.ring.specs.Ring.{runs, popped}
 use Rattle.pulses.proofs.Passing.{no-row}
 use Rattle.queue.specs.Listed.{moved}
 use Rattle.queue.proofs.Relays.{rows-length, among, switched-masked, switched-unmasked, relay-put, put-length, ended-length}

@@ -38,8 +38,9 @@ use Rattle.rows.proofs.Channel.{and-left, in-range}
 use Rattle.rows.specs.Held as held
 use Rattle.laws.specs.Bits.{bitOf}
 use Rattle.tables.specs.Time.{passed}
-use Rattle.pulses.specs.declared.Pulse.{Pulse}
-use Rattle.pulses.specs.Pulses.{pulseOf, relayPulse, pulseAt, standing, isFull, runs, place, statesBelow, statesOf, begun, ended, turned, endsWithin, tick, elapsed, joined, accepted, newest, seatOf, rowAfter}
+use Rattle.ring.specs.declared.Pulse.{Pulse}
+use Rattle.pulses.specs.Pulses.{statesBelow, statesOf, begun, ended, turned, endsWithin, tick, elapsed, accepted}
+use Rattle.ring.specs.Ring.{pulseOf, relayPulse, pulseAt, standing, isFull, runs, place, joined, newest, seatOf, rowAfter}
 use Rattle.pulses.specs.Passing.{going, over, startOf}
 use Rattle.pulses.proofs.Apart.{queue-passed}
 use Rattle.pulses.proofs.Bits.{bit-added, bit-top}

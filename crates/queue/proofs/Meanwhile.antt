@@ -28,7 +28,7 @@ use Rattle.changes.specs.Entries.{writeInput, writeRelay}
 use Rattle.changes.specs.Levels.{hasLevel, levelOf}
 use Rattle.edits.specs.Edits.{told, inputWritten, relayWritten, relayFails}
 use Rattle.marks.specs.Marks.{markedRow, marked}
-use Rattle.pulses.specs.Pulses.{runs}
+use Rattle.ring.specs.Ring.{runs}
 use Rattle.queue.specs.Meanwhile.{Beside}
 use Rattle.queue.proofs.Relays.{rows-length}
 

@@ -22,8 +22,9 @@ use Rattle.rows.specs.Held as held
 use Rattle.laws.specs.Bits.{bitOf}
 use Rattle.changes.specs.Commands.{blockedRow, blockOf}
 use Rattle.marks.specs.Marks.{markedRow, marked}
-use Rattle.pulses.specs.declared.Pulse.{Pulse}
-use Rattle.pulses.specs.Pulses.{statesOf, switched, beginning, begun, popped, ended}
+use Rattle.ring.specs.declared.Pulse.{Pulse}
+use Rattle.pulses.specs.Pulses.{statesOf, switched, beginning, begun, ended}
+use Rattle.ring.specs.Ring.{popped}
 use Rattle.pulses.proofs.Bits.{states-small, states-bit}
 
 -- ---- rows that are changed, and the others

@@ -20,8 +20,9 @@ use Rattle.laws.proofs.Tests.{by-cases}
 use Rattle.rows.specs.declared.Queue.{Queue}
 use Rattle.rows.specs.Places.{Board, queueRow, queueOf, putQueue, leftSet}
 use Rattle.tables.specs.Time.{passed}
-use Rattle.pulses.specs.declared.Pulse.{Pulse}
-use Rattle.pulses.specs.Pulses.{pulseOf, pulseAt, standing, isFull, place, runs, statesOf, beginning, begun, popped, ended, followed, turned, waited, tick, elapsed, joined, accepted, newest, seatOf, rowAfter}
+use Rattle.ring.specs.declared.Pulse.{Pulse}
+use Rattle.pulses.specs.Pulses.{statesOf, beginning, begun, ended, followed, turned, waited, tick, elapsed, accepted}
+use Rattle.ring.specs.Ring.{pulseOf, pulseAt, standing, isFull, place, runs, popped, joined, newest, seatOf, rowAfter}
 use Rattle.pulses.proofs.Apart.{queue-passed, queue-switched}
 use Rattle.pulses.proofs.Ticks.{leaving, left-told}
 use Rattle.pulses.proofs.Passing.{has-row, told-again, queue-ended}

@@ -24,8 +24,9 @@ use Rattle.rows.specs.Held as held
 use Rattle.laws.specs.Bits.{bitOf}
 use Rattle.tables.specs.Time.{grown, usagePassed, relayPassed, passed}
 use Rattle.tables.proofs.Views.{time-relay}
-use Rattle.pulses.specs.declared.Pulse.{Pulse}
-use Rattle.pulses.specs.Pulses.{pulseOf, pulseAt, standing, isFull, runs, place, lasts, endsWithin, statesOf, beginning, begun, ended, turned, waited, tick, elapsed, joined, accepted, rowAfter}
+use Rattle.ring.specs.declared.Pulse.{Pulse}
+use Rattle.pulses.specs.Pulses.{lasts, endsWithin, statesOf, beginning, begun, ended, turned, waited, tick, elapsed, accepted}
+use Rattle.ring.specs.Ring.{pulseOf, pulseAt, standing, isFull, runs, place, joined, rowAfter}
 use Rattle.pulses.proofs.Apart.{queue-passed}
 use Rattle.pulses.proofs.Ticks.{leaving, left-told, quiet, jump}
 use Rattle.pulses.proofs.Passing.{no-row, has-row, queue-ended}

@@ -8,8 +8,9 @@ use Rattle.rows.specs.declared.Queue.{Queue}
 use Rattle.rows.specs.Places.{Board, relayAt, queueOf, leftSet}
 use Rattle.tables.specs.Time.{passed}
 use Rattle.changes.specs.Answers.{differ}
-use Rattle.pulses.specs.declared.Pulse.{Pulse}
-use Rattle.pulses.specs.Pulses.{pulseAt, standing, isFull, place, begun, ended, accepted}
+use Rattle.ring.specs.declared.Pulse.{Pulse}
+use Rattle.pulses.specs.Pulses.{begun, ended, accepted}
+use Rattle.ring.specs.Ring.{pulseAt, standing, isFull, place}
 
 -- the board, and the pulses that stand, the running one first
 pub record Listed : Type 0 where

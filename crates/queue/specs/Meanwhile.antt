@@ -6,8 +6,9 @@ use Prim.Native.Nat.{ℕ, zero, suc}
 use lib.ListN.{length}
 use Rattle.rows.specs.Places.{Board, queueOf}
 use Rattle.tables.specs.Time.{passed}
-use Rattle.pulses.specs.declared.Pulse.{Pulse}
-use Rattle.pulses.specs.Pulses.{runs, tick}
+use Rattle.ring.specs.declared.Pulse.{Pulse}
+use Rattle.pulses.specs.Pulses.{tick}
+use Rattle.ring.specs.Ring.{runs}
 
 -- 02, M-100, 3: what was done between two boards, a command, a block, a write entry, a request, left the running pulse what is its own
 pub record Beside (b b′ : Board) : Type 0 where

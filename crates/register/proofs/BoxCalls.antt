@@ -16,10 +16,11 @@ use Rattle.framing.specs.Reading.{start, gotOf, halfAfter}
 use Rattle.framing.proofs.Turns.{length-run}
 use Rattle.rows.specs.Rows.{lineIn, lineWords, shutLine}
 use Rattle.rows.specs.Places.{Board, isConnection, rowAt, lineAt, putLine, linePlace, queueOf}
-use Rattle.pulses.specs.declared.Pulse.{Pulse}
-use Rattle.pulses.specs.Pulses.{shortRow, rowAfter}
-use Rattle.plain.specs.Lines.{openedLine, isOpen}
-use Rattle.plain.specs.Events.{tooShort, connected, closed}
+use Rattle.ring.specs.declared.Pulse.{Pulse}
+use Rattle.pulses.specs.Pulses.{shortRow}
+use Rattle.ring.specs.Ring.{rowAfter}
+use Rattle.connections.specs.Lines.{openedLine, isOpen, connected, closed}
+use Rattle.plain.specs.Events.{tooShort}
 use Rattle.halves.specs.Halves.{Halves, halfAt, putHalf, dropped}
 use Rattle.halves.specs.Rooms.{roomAt, putRoom}
 use Rattle.board.specs.Calls.{answered, fed, fedCall, bytesCall, halvesAfter, roomsAfter}

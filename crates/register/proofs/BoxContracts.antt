@@ -23,9 +23,12 @@ use Rattle.readings.specs.Readings.{monitorReply}
 use Rattle.readings.proofs.Lengths.{length-monitor}
 use Rattle.rows.specs.Places.{Board, lineAt}
 use Rattle.laws.proofs.Tests.{by-cases}
-use Rattle.pulses.specs.declared.Pulse.{Pulse}
-use Rattle.pulses.specs.Pulses.{shortRow, rowAfter}
-use Rattle.plain.specs.Events.{Did, framed, leveled, timePassed, connected, closed, monitorSent}
+use Rattle.ring.specs.declared.Pulse.{Pulse}
+use Rattle.pulses.specs.Pulses.{shortRow}
+use Rattle.ring.specs.Ring.{rowAfter}
+use Rattle.plain.specs.Events.{leveled, timePassed, monitorSent}
+use Rattle.connections.specs.Lines.{connected, closed}
+use Rattle.answers.specs.Calls.{Did, framed}
 use Rattle.serving.specs.Obeying.{obeyed}
 use Rattle.serving.specs.Serving.{servedContent, servedMessage}
 use Rattle.serving.proofs.Lengths as serving

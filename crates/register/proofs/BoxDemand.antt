@@ -16,8 +16,8 @@ use lib.ListN.{length, take, replicate}
 use Rattle.rows.specs.Rows.{lineIn, shutLine}
 use Rattle.rows.specs.Places.{Board, isConnection, rowAt, lineAt, onRows, linePlace, firstInput, firstRelay, rows}
 use Rattle.rows.proofs.Range.{beyond}
-use Rattle.pulses.specs.declared.Pulse.{Pulse}
-use Rattle.plain.specs.Lines.{isOpen}
+use Rattle.ring.specs.declared.Pulse.{Pulse}
+use Rattle.connections.specs.Lines.{isOpen}
 use Rattle.serving.specs.Serving.{servedMessage}
 use Rattle.powerup.specs.declared.Settings.{Settings}
 use Rattle.powerup.specs.PowerUp.{poweredUp}

@@ -13,12 +13,13 @@ use Rattle.framing.specs.Cut.{Got}
 use Rattle.framing.specs.Reading.{start, Run, gotOf, halfAfter}
 use Rattle.framing.proofs.Turns.{length-run}
 use Rattle.rows.specs.declared.Line.{Line}
-use Rattle.pulses.specs.Pulses.{shortRow, rowAfter}
-use Rattle.plain.specs.Lines.{isOpen}
-use Rattle.plain.specs.Events as plain
-use Rattle.plain.specs.Events.{Did, tooShort, connected, closed}
+use Rattle.pulses.specs.Pulses.{shortRow}
+use Rattle.ring.specs.Ring.{rowAfter}
+use Rattle.connections.specs.Lines.{isOpen, connected, closed}
+use Rattle.plain.specs.Events.{tooShort}
+use Rattle.answers.specs.Calls.{Did}
 use Rattle.serving.specs.Serving.{servedMessage}
-use Rattle.plain.proofs.Lines.{open-below}
+use Rattle.connections.proofs.Lines.{open-below}
 use Rattle.halves.specs.Halves.{halfAt}
 use Rattle.halves.specs.Rooms.{roomAt}
 use Rattle.board.specs.Calls.{answered, fed, levelCall, passCall, connectCall, closeCall, collectCall, bytesCall, halvesAfter, roomsAfter}

@@ -33,10 +33,11 @@ use Rattle.orders.specs.declared.Entry.{Entry}
 use Rattle.orders.specs.Entries.{entryOf}
 use Rattle.orders.specs.Orders.{orderOf}
 use Rattle.writes.specs.Writes.{Entered, inputSizeFits, relaySizeFits, deviceDone, soFar, entryNoted, writtenFrom}
-use Rattle.pulses.specs.declared.Pulse.{Pulse}
-use Rattle.pulses.specs.Pulses.{pulseOf, relayPulse, shortRow, isFull}
+use Rattle.ring.specs.declared.Pulse.{Pulse}
+use Rattle.pulses.specs.Pulses.{shortRow}
+use Rattle.ring.specs.Ring.{pulseOf, relayPulse, isFull}
 use Rattle.pulses.proofs.Keeping.{Keeps, elapsed-keeps, accepted-keeps}
-use Rattle.plain.specs.Lines.{openedLine}
+use Rattle.connections.specs.Lines.{openedLine}
 use Rattle.marks.specs.Marks.{watches, markedRow, marked}
 use Rattle.plain.specs.Events.{leveled, timePassed, monitorSent}
 use Rattle.serving.specs.Obeying.{monitorSet, clockTold, pulsed, obeyed}

@@ -24,14 +24,17 @@ use Rattle.framing.specs.Cut.{Got, frame}
 use Rattle.framing.specs.Reading.{Run, gotOf}
 use Rattle.rows.specs.Rows.{word}
 use Rattle.rows.specs.Places.{Board, rowAt, lineAt, clockSet, clockRow}
-use Rattle.pulses.specs.declared.Pulse.{Pulse}
-use Rattle.pulses.specs.Pulses.{shortRow, elapsed, rowAfter}
+use Rattle.ring.specs.declared.Pulse.{Pulse}
+use Rattle.pulses.specs.Pulses.{shortRow, elapsed}
+use Rattle.ring.specs.Ring.{rowAfter}
 use Rattle.judges.specs.declared.Order.{Order}
 use Rattle.judges.specs.declared.Order.the-variants.{Refused, SetClock}
 use Rattle.judges.specs.Judges.{judgeSetClock}
 use Rattle.orders.specs.Orders.{setClockOf, orderOf}
 use Rattle.marks.specs.Marks.{withDue}
-use Rattle.plain.specs.Events.{Did, did, refused, leveled, timePassed, connected, closed, monitorSent, collected}
+use Rattle.plain.specs.Events.{leveled, timePassed, monitorSent, collected}
+use Rattle.connections.specs.Lines.{connected, closed}
+use Rattle.answers.specs.Calls.{Did, did, refused}
 use Rattle.serving.specs.Obeying.{clockTold, obeyed}
 use Rattle.serving.specs.Serving.{servedContent, servedMessage}
 use Rattle.halves.specs.Halves.{Halves, halfAt, dropped}

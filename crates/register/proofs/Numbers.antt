@@ -10,8 +10,8 @@ use Rattle.framing.specs.Cut.{Got, keepAlive, stray, tooLong, frame}
 use Rattle.rows.specs.declared.Input.{Input}
 use Rattle.rows.specs.declared.Relay.{Relay}
 use Rattle.rows.specs.Places.{Board, isChannel, lineAt, queueOf}
-use Rattle.pulses.specs.declared.Pulse.{Pulse}
-use Rattle.pulses.specs.Pulses.{pulseOf, relayPulse, isFull}
+use Rattle.ring.specs.declared.Pulse.{Pulse}
+use Rattle.ring.specs.Ring.{pulseOf, relayPulse, isFull}
 use Rattle.changes.specs.Answers as tables
 use Rattle.changes.specs.Answers.{onInput, onRelay}
 use Rattle.changes.specs.Levels.{hasLevel, levelOf}
@@ -22,7 +22,8 @@ use Rattle.judges.specs.declared.Order.the-variants.{Refused, Clock, Monitor, U
 use Rattle.orders.specs.Orders.{orderOf}
 use Rattle.orders.proofs.Orders.{Refusal, refusals}
 use Rattle.marks.specs.Marks.{marked}
-use Rattle.plain.specs.Events.{Did, refused, changedTo, leveled, sealing}
+use Rattle.plain.specs.Events.{changedTo, leveled}
+use Rattle.answers.specs.Calls.{Did, refused, sealing}
 use Rattle.serving.specs.Obeying.{monitorSet, clockTold, pulsed, obeyed}
 use Rattle.serving.specs.Serving.{servedContent, servedMessage}
 use Rattle.register.specs.Box.{beforeBytes}

@@ -23,10 +23,11 @@ use Rattle.changes.specs.Levels.{levelOf}
 use Rattle.orders.specs.Orders.{orderOf}
 use Rattle.writes.specs.Writes.{soFar}
 use Rattle.marks.specs.Marks.{markedRow, marked}
-use Rattle.pulses.specs.declared.Pulse.{Pulse}
-use Rattle.pulses.specs.Pulses.{pulseOf, relayPulse, runs, isFull, joined, accepted}
+use Rattle.ring.specs.declared.Pulse.{Pulse}
+use Rattle.pulses.specs.Pulses.{accepted}
+use Rattle.ring.specs.Ring.{pulseOf, relayPulse, runs, isFull, joined}
 use Rattle.pulses.proofs.Passing.{has-row, told-again}
-use Rattle.plain.specs.Lines.{openedLine}
+use Rattle.connections.specs.Lines.{openedLine}
 use Rattle.plain.specs.Events.{leveled, monitorSent}
 use Rattle.serving.specs.Obeying.{monitorSet, clockTold, pulsed, obeyed}
 use Rattle.serving.specs.Serving.{servedContent, servedMessage}

@@ -22,10 +22,11 @@ use Rattle.rows.proofs.Views.{flag-again, line-again}
 use Rattle.changes.specs.Levels.{levelOf}
 use Rattle.orders.specs.Orders.{orderOf}
 use Rattle.writes.specs.Writes.{soFar}
-use Rattle.pulses.specs.declared.Pulse.{Pulse}
-use Rattle.pulses.specs.Pulses.{pulseOf, relayPulse, shortRow, isFull}
+use Rattle.ring.specs.declared.Pulse.{Pulse}
+use Rattle.pulses.specs.Pulses.{shortRow}
+use Rattle.ring.specs.Ring.{pulseOf, relayPulse, isFull}
 use Rattle.pulses.proofs.Keeping.{Keeps, elapsed-keeps, accepted-keeps}
-use Rattle.plain.specs.Lines.{isOpen}
+use Rattle.connections.specs.Lines.{isOpen}
 use Rattle.marks.specs.Marks.{withDue, watches, markedRow, marked}
 use Rattle.plain.specs.Events.{leveled, timePassed, monitorSent, collected}
 use Rattle.serving.specs.Obeying.{monitorSet, clockTold, pulsed, obeyed}

@@ -5,12 +5,14 @@ use mathlib.Core.Option.{Option, none, some}
 use Prim.Native.Nat.{ℕ}
 use lib.Dec.{eqb}
 use lib.ListN.{length, take}
-use Rattle.plain.specs.Lines.{isOpen}
-use Rattle.plain.specs.Events.{Did, tooShort, leveled, timePassed, connected, closed, collected}
+use Rattle.connections.specs.Lines.{isOpen, connected, closed}
+use Rattle.plain.specs.Events.{tooShort, leveled, timePassed, collected}
+use Rattle.answers.specs.Calls.{Did}
 use Rattle.serving.specs.Serving.{servedMessage}
 use Rattle.rows.specs.Places.{Board}
-use Rattle.pulses.specs.declared.Pulse.{Pulse}
-use Rattle.pulses.specs.Pulses.{shortRow, rowAfter}
+use Rattle.ring.specs.declared.Pulse.{Pulse}
+use Rattle.pulses.specs.Pulses.{shortRow}
+use Rattle.ring.specs.Ring.{rowAfter}
 use Rattle.halves.specs.Halves.{Halves, dropped}
 use Rattle.board.specs.declared.Done.{Done}
 use Rattle.powerup.specs.declared.Settings.{Settings}

@@ -40,16 +40,16 @@ use denote.Triple.Table.{entered, cited}
 use denote.Triple.Walked.{Stays, gave-ref, gave-slice, stay-none, stay-none-slice, walkOf, goes-gave-ref, goes-gave-slice, goes-none, goes-none-slice, Walks, ends-at, walked, walk-meets}
 use denote.Exit.{yes}
 use Rattle.rows.specs.Places.{Board, queueOf}
-use Rattle.pulses.specs.declared.Pulse.{Pulse}
-use Rattle.pulses.specs.Pulses.{seatOf, newest, rowAfter}
+use Rattle.ring.specs.declared.Pulse.{Pulse}
+use Rattle.ring.specs.Ring.{seatOf, newest, rowAfter}
 use Rattle.board.specs.declared.Done.{Done}
 use Rattle.board.specs.declared.Taken.{Taken}
 use Rattle.board.specs.Calls.{Effect, bytesCall, halvesAfter, roomsAfter, Answers}
 use Rattle.capi.proofs.Calling.{token, told, gets, asks-one, all-said, four}
 use Rattle.capi.proofs.Types.{board-type, board-slot, board-ref}
 use Rattle.capi.proofs.Stored.{stored}
-use Rattle.pulses.proofs.Pulse as P
-use Rattle.pulses.proofs.Pulse.Laws as P′
+use Rattle.ring.proofs.Pulse as P
+use Rattle.ring.proofs.Pulse.Laws as P′
 use Rattle.board.proofs.Done as D
 use Rattle.board.proofs.Done.Laws as D′
 use Rattle.board.proofs.Taken as X

@@ -41,7 +41,7 @@ use denote.Triple.Table.{entered, cited}
 use denote.Triple.Walked.{says, Stays, stay-ref, stay-none-slice, stay-none, walkOf, goes-ref, goes-none-slice, goes-none, Walks, ends-at, walked, walk-meets}
 use denote.Exit.{yes}
 use Rattle.rows.specs.Places.{Board, queueOf}
-use Rattle.pulses.specs.declared.Pulse.{Pulse}
+use Rattle.ring.specs.declared.Pulse.{Pulse}
 use Rattle.pulses.specs.Pulses.{shortRow, endsWithin, waited}
 use Rattle.pulses.proofs.Passing.{passing-at-once}
 use Rattle.board.specs.declared.Done.{Done}
@@ -50,7 +50,7 @@ use Rattle.board.proofs.Timed.{pass-ends}
 use Rattle.capi.proofs.Calling.{at-value, OwnAt, token, told, gets, asks-one, lends, back, both}
 use Rattle.capi.proofs.Turns.{going-on, over, pulsed-ends}
 use Rattle.capi.proofs.Types.{board-type, board-slot, board-ref}
-use Rattle.pulses.proofs.Pulse as P
+use Rattle.ring.proofs.Pulse as P
 use Rattle.board.proofs.Done as D
 use Rattle.board.proofs.Done.Laws as D′
 use Rattle.pulses.proofs.at_once as at-once

@@ -42,9 +42,9 @@ use denote.Triple.Table.{entered, cited}
 use denote.Triple.Walked.{says, Stays, stay-ref, stay-none-slice, stay-none, walkOf, goes-ref, goes-none-slice, goes-none, Walks, ends-at, walked, walk-meets}
 use denote.Exit.{yes}
 use Rattle.rows.specs.Places.{Board}
-use Rattle.pulses.specs.declared.Pulse.{Pulse}
+use Rattle.ring.specs.declared.Pulse.{Pulse}
 use Rattle.pulses.specs.declared.Time.{Time}
-use Rattle.pulses.specs.Pulses.{pulseAt}
+use Rattle.ring.specs.Ring.{pulseAt}
 use Rattle.pulses.specs.Passing.{Goes, startOf, turnOf}
 use Rattle.pulses.proofs.Passing.{Passing, waiting, passing-start}
 use Rattle.board.specs.Calls.{passCall, passedIn, Ends}
@@ -52,8 +52,8 @@ use Rattle.board.proofs.Timed.{pass-ends}
 use Rattle.capi.proofs.Calling.{rest-of, at-value, OwnAt, token, told, gets, asks-one, lends, back}
 use Rattle.capi.proofs.Turns.{going-on, over, turned}
 use Rattle.capi.proofs.Types.{board-type, board-slot, board-ref}
-use Rattle.pulses.proofs.Pulse as P
-use Rattle.pulses.proofs.Pulse.Laws as P′
+use Rattle.ring.proofs.Pulse as P
+use Rattle.ring.proofs.Pulse.Laws as P′
 use Rattle.pulses.proofs.Time as T
 use Rattle.pulses.proofs.Time.Laws as T′
 use Rattle.pulses.proofs.time_of as time-of

@@ -37,10 +37,10 @@ use denote.Triple.Spec.{Meets, tripleOf}
 use denote.Triple.Table.{entered}
 use denote.Triple.Walked.{says, Stays, stay-none-slice, stay-none, walkOf, goes-none-slice, goes-none, Walks, ends-at, walked, walk-meets}
 use denote.Exit.{yes}
-use Rattle.pulses.specs.declared.Pulse.{Pulse}
-use Rattle.pulses.specs.Pulses.{pulseAt}
-use Rattle.pulses.proofs.Pulse as P
-use Rattle.pulses.proofs.Pulse.Laws as P′
+use Rattle.ring.specs.declared.Pulse.{Pulse}
+use Rattle.ring.specs.Ring.{pulseAt}
+use Rattle.ring.proofs.Pulse as P
+use Rattle.ring.proofs.Pulse.Laws as P′
 use Rattle.lent.proofs.Places.{noPulse, at-past}
 use Rattle.lent.proofs.pulse_at.Key.{name as #lent·pulse-at}
 use Rattle.lent.proofs.pulse_at as pulse-at

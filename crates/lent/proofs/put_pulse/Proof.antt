@@ -39,9 +39,9 @@ use denote.Triple.Spec.{Meets, tripleOf}
 use denote.Triple.Table.{entered}
 use denote.Triple.Walked.{says, Stays, stay-slice, stay-none, walkOf, goes-slice, goes-none, Walks, ends-at, walked, walk-meets}
 use denote.Exit.{yes}
-use Rattle.pulses.specs.declared.Pulse.{Pulse}
-use Rattle.pulses.proofs.Pulse as P
-use Rattle.pulses.proofs.Pulse.Laws as P′
+use Rattle.ring.specs.declared.Pulse.{Pulse}
+use Rattle.ring.proofs.Pulse as P
+use Rattle.ring.proofs.Pulse.Laws as P′
 use Rattle.lent.proofs.Places.{noPulse, set-past}
 use Rattle.lent.proofs.put_pulse.Key.{name as #lent·put-pulse}
 use Rattle.lent.proofs.put_pulse as put-pulse

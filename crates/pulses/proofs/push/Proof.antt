@@ -22,9 +22,9 @@ push-spec =
     let l = p .before .before .before in
     let q = l .before .before .queue-of in
     rw (← q .ensures, lt-leb _ _ (l .if1 .left), le-ltb 0 (q .result .standing) (omega (arith, t .if2 .taken)))
-    (c .begin .ensures ∙ rw (p .put-queue .ensures, p .before .join .ensures), refl))
+    (c .begin .ensures ∙ rw (p .put-queue .ensures, p .before .join .ensures, lt-leb _ _ (l .if1 .left)), refl))
     (λ c. let p = c .before .before in
     let l = p .before .before .before in
     let q = l .before .before .queue-of in
     rw (← q .ensures, lt-leb _ _ (l .if1 .left), lt-ltb 0 (q .result .standing) (omega (arith, c .if2 .left)))
-    (p .put-queue .ensures ∙ rw (p .before .join .ensures), refl)))
+    (p .put-queue .ensures ∙ rw (p .before .join .ensures, lt-leb _ _ (l .if1 .left)), refl)))

@@ -1,7 +1,7 @@
 -- `pulses::with_relay`: its bit, or none.
 use native.Mathlib.Omega.{arith}
 use lib.Pow.{pow-mono}
-use Rattle.pulses.proofs.Bits.{weight}
+use Rattle.ring.proofs.Weight.{weight}
 use borrow.Author.Needs.{needs}
 use Rattle.pulses.proofs.with_relay.Statement.{statement}
 use Rattle.pulses.proofs.with_relay.Tie as tie

@@ -1,0 +1,32 @@
+-- The connections, without their half-read messages: which are open, and opening and closing one. Document 01, "What the box holds" and
+-- "Events besides bytes".
+use mathlib.Core.Bool.{Bool, true, cond}
+use mathlib.Core.List.{[]}
+use Prim.Native.Nat.{ℕ}
+use lib.Dec.{ltb}
+use Rattle.rows.specs.declared.Line.{Line}
+use Rattle.rows.specs.Rows.{shutLine}
+use Rattle.rows.specs.Places.{Board, isConnection, lineAt, putLine}
+use Rattle.marks.specs.Marks.{lineOf, hasRank}
+use Rattle.answers.specs.Calls.{Did, did, refused}
+
+-- 01, Events, 3: what an opening at a rank makes of a connection
+unfoldable pub openedLine : ℕ → Line
+openedLine rank = lineOf true rank true (hasRank rank)
+
+-- 01, Answer numbers, line 3: whether c is open; a number that is no connection's reads as shut
+abbrev pub isOpen : ℕ → Board → Bool
+isOpen c b = lineAt c b .isOpen
+
+-- 01, Events, 3, and Answer numbers, lines 3, 12 and 13: an opening: first the number is judged, then whether it is open, then the rank
+unfoldable pub connected : ℕ → ℕ → Board → Did
+connected c rank p =
+    cond (isConnection c)
+    (cond (isOpen c p) (refused 12 p)
+    (cond (ltb 2 rank) (refused 13 p)
+    (did (putLine c (openedLine rank) p) 1 [])))
+    (refused 3 p)
+
+-- 01, Events, 4: a closing: everything of the connection becomes 0
+unfoldable pub closed : ℕ → Board → Did
+closed c p = cond (isOpen c p) (did (putLine c shutLine p) 1 []) (refused 3 p)

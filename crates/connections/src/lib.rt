@@ -1,0 +1,70 @@
+// The connections: which are open, and opening and closing one. It knows nothing of half-read messages. It takes every number, every rank and
+// every board, nonsense included.
+
+ghost use mathlib.Core.Path.{_≡_};
+ghost use Rattle.rows.specs.Rows.{shutLine};
+ghost use Rattle.answers.specs.Calls.{Gives};
+ghost use Rattle.connections.specs.Lines.{openedLine, isOpen, connected, closed};
+use answers::Served;
+use rows::Line;
+use rows::ROWS;
+
+// A connection that is closed: everything of it is 0.
+fn shut() -> Line
+    ensures { λ r. ⌜ r ≡ shutLine ⌝ }
+{
+    Line {
+        isOpen: false,
+        rank: 0,
+        monitor: false,
+        due: false,
+    }
+}
+
+// A connection that was opened at a rank.
+fn opened(rank: u64) -> Line
+    ensures { λ r. ⌜ r ≡ openedLine rank ⌝ }
+{
+    Line {
+        isOpen: true,
+        rank,
+        monitor: true,
+        due: marks::has_rank(rank),
+    }
+}
+
+// Whether c is a connection that is open.
+pub fn is_open(board: &[[u64; 8]; ROWS], c: u8) -> bool
+    ensures { λ r. ⌜ r ≡ isOpen c (now (board .entry)) ⌝ }
+{
+    let line = rows::line_at(board, c as usize);
+    line.isOpen
+}
+
+// A connection is opened at a rank.
+pub fn connect(board: &mut [[u64; 8]; ROWS], c: u8, rank: u8) -> Served
+    ensures { λ r. ⌜ Gives (connected c rank (now (board .entry))) (now (board .exit)) r ⌝ }
+{
+    if 4 <= c {
+        return answers::no_reply(3);
+    }
+    if is_open(board, c) {
+        return answers::no_reply(12);
+    }
+    if 2 < rank {
+        return answers::no_reply(13);
+    }
+    rows::put_line(board, c as usize, opened(rank as u64));
+    answers::no_reply(1)
+}
+
+// A connection is closed.
+pub fn close(board: &mut [[u64; 8]; ROWS], c: u8) -> Served
+    ensures { λ r. ⌜ Gives (closed c (now (board .entry))) (now (board .exit)) r ⌝ }
+{
+    if is_open(board, c) {
+        rows::put_line(board, c as usize, shut());
+        return answers::no_reply(1);
+    }
+    answers::no_reply(3)
+}
