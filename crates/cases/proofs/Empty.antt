@@ -21,7 +21,7 @@ use Rattle.framing.specs.Reading.{start}
 use Rattle.changes.specs.Answers.{onRelay}
 use Rattle.judges.specs.Judges.{onChannel, judgeCommand}
 use Rattle.orders.specs.Orders.{commandOf, orderOf}
-use Rattle.replies.specs.Replies.{relaysOf}
+use Rattle.writers.specs.Writers.{relaysOf}
 use Rattle.readings.specs.Readings.{monitorReply}
 use Rattle.rows.specs.Places.{isConnection, relayAt, lineAt, putRelay, putLine, onRows, queueOf}
 use Rattle.ring.specs.declared.Pulse.{Pulse}

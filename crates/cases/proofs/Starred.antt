@@ -19,7 +19,7 @@ use Rattle.orders.specs.Entries.{fitsExactly}
 use Rattle.judges.specs.Judges.{sizedRequest, judgeRequest, ifSized, onChannel, judgeCommand, judgeRead, judgeWrite}
 use Rattle.orders.specs.Orders.{requestOf, commandOf, readOf, writeOf, orderOf}
 use Rattle.readings.specs.Readings as readings
-use Rattle.replies.specs.Replies.{inputsOf, relaysOf}
+use Rattle.writers.specs.Writers.{inputsOf, relaysOf}
 use Rattle.readings.specs.Readings.{inputRow, monitorReply, inputBlock, entryOf, idsIn, devicesReply}
 use Rattle.writes.specs.Writes.{deviceDone, writtenFrom}
 use Rattle.connections.specs.Lines.{openedLine, connected}

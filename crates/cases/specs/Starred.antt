@@ -7,7 +7,7 @@ use Rattle.rows.specs.declared.Relay.{Relay}
 use Rattle.rows.specs.Places.{Board, inputAt, lineAt}
 use Rattle.ring.specs.declared.Pulse.{Pulse}
 use Rattle.ring.specs.Ring.{pulseOf}
-use Rattle.replies.specs.Replies.{relaysOf}
+use Rattle.writers.specs.Writers.{relaysOf}
 use Rattle.powerup.specs.declared.Settings.{Settings}
 use Rattle.demand.specs.Demand.{Call, bytes, other}
 use Rattle.register.specs.Box.{level, connect, collect, Held, served, effectOf, ends}

@@ -11,8 +11,8 @@ use lib.Seq.{drop-cons}
 use Rattle.rows.specs.declared.Relay.{Relay}
 use Rattle.rows.specs.Rows.{blankRelay}
 use Rattle.rows.specs.Places.{Board, relayAt}
-use Rattle.replies.specs.Replies.{relaysOf}
-use Rattle.replies.proofs.Places.{relay-place}
+use Rattle.writers.specs.Writers.{relaysOf}
+use Rattle.writers.proofs.Channels.{relay-place}
 use Rattle.console.specs.Digits.{closedBit, relayBits}
 
 bit-small : (t : Bool) → cond t 1 0 ≤ 1

@@ -16,7 +16,7 @@ use Rattle.laws.proofs.Tests.{by-cases}
 use Rattle.words.specs.Words.{Stored}
 use Rattle.words.proofs.Laws.{stored}
 use Rattle.rows.specs.Places.{Board}
-use Rattle.replies.specs.Replies.{relaysOf}
+use Rattle.writers.specs.Writers.{relaysOf}
 use Rattle.board.specs.declared.Done.{Done}
 use Rattle.halves.specs.Halves.{Halves}
 use Rattle.console.specs.Digits.{relayBits, shownOf}

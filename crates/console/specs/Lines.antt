@@ -7,7 +7,7 @@ use lib.Dec.{eqb}
 use Rattle.answers.specs.Calls.{refused}
 use Rattle.framing.specs.Reading.{start}
 use Rattle.rows.specs.Places.{Board}
-use Rattle.replies.specs.Replies.{relaysOf}
+use Rattle.writers.specs.Writers.{relaysOf}
 use Rattle.powerup.specs.PowerUp.{blankSettings, poweredUp}
 use Rattle.halves.specs.Halves.{Halves, putHalf}
 use Rattle.board.specs.Calls.{Effect, still, connectCall, bytesCall, halvesAfter, roomsAfter}

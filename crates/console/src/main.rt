@@ -9,7 +9,7 @@ ghost use Prim.Native.Nat.{_+_, _≤_, _<_, min};
 ghost use lib.Dec.{ltb};
 ghost use lib.ListN.{length, set, take};
 ghost use Rattle.laws.specs.Put.{put, Wrote};
-ghost use Rattle.replies.specs.Replies.{relaysOf};
+ghost use Rattle.writers.specs.Writers.{relaysOf};
 ghost use Rattle.board.specs.Calls.{Answers};
 ghost use Rattle.console.specs.Digits.{isDigit, digitOf, allDigits, feeds, pairs, parsed, told, bytesIn, glyph as Digits·glyph, closedBit, relayBits, shownOf};
 ghost use Rattle.console.specs.Lines.{started, startedHalves, lineCall, lineHalves, lineRooms, shown};
@@ -246,7 +246,7 @@ fn end_line(
     let d = feed_line(board, halves, rooms, so_far(line, s.used), reply);
     let text = digits(d.answer, relay_byte(board));
     let at = s.len;
-    let len = words::copy(out, at, &text);
+    let len = copying::copy(out, at, &text);
     Console {
         used: 0, // the next line has no character yet
         len,

@@ -20,7 +20,8 @@ use Rattle.changes.specs.Commands.{blockOf}
 use Rattle.judges.specs.declared.Order.{Order}
 use Rattle.judges.specs.declared.Order.the-variants.{Refused, Clock, Monitor, Usage, MonitorOff, MonitorOn, SetClock, Close, Open, Toggle, ClearCount, ClearInputUsage, ClearRelayUsage, Block, PulseRelay, PulseBlock, Read, Write, Enumerate}
 use Rattle.orders.specs.Orders.{orderOf}
-use Rattle.orders.proofs.Orders.{Refusal, refusals}
+use Rattle.orders.specs.Ranges.{Refusal}
+use Rattle.orders.proofs.Orders.{refusals}
 use Rattle.marks.specs.Marks.{marked}
 use Rattle.plain.specs.Events.{changedTo, leveled}
 use Rattle.answers.specs.Calls.{Did, refused, sealing}

@@ -1,13 +1,13 @@
--- `words::copy_rest`: what is still to be copied gives, behind what is there, what all of it gives.
+-- `copying::copy_rest`: what is still to be copied gives, behind what is there, what all of it gives.
 use mathlib.Core.Path.{_≡_, refl, _∙_}
 use Prim.Native.Nat.{_-_, _+_, _≤_}
 use lib.ListN.{length, drop}
 use Rattle.laws.specs.Put.{put}
-use Rattle.words.proofs.Turns.{rest-turn, rest-done}
+use Rattle.copying.proofs.Turns.{rest-turn, rest-done}
 use borrow.Author.Needs.{needs}
 use native.Mathlib.Omega.{arith}
-use Rattle.words.proofs.copy_rest.Statement.{statement}
-use Rattle.words.proofs.copy_rest.Tie as tie
+use Rattle.copying.proofs.copy_rest.Statement.{statement}
+use Rattle.copying.proofs.copy_rest.Tie as tie
 
 abbrev Inv-loop : tie.InvT-loop
 Inv-loop out₀ at src from k₀ out k =

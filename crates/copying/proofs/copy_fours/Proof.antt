@@ -1,14 +1,14 @@
--- `words::copy_fours`: four bytes more each turn.
+-- `copying::copy_fours`: four bytes more each turn.
 use mathlib.Core.Path.{_≡_, refl, sym}
 use Prim.Native.Nat.{_-_, _≤_, zero-le}
 use lib.ListN.{length, take, length-set}
 use Rattle.laws.specs.Put.{put}
 use Rattle.laws.proofs.Put.{put-none}
-use Rattle.words.proofs.Turns.{copy-four}
+use Rattle.copying.proofs.Turns.{copy-four}
 use borrow.Author.Needs.{needs}
 use native.Mathlib.Omega.{arith}
-use Rattle.words.proofs.copy_fours.Statement.{statement}
-use Rattle.words.proofs.copy_fours.Tie as tie
+use Rattle.copying.proofs.copy_fours.Statement.{statement}
+use Rattle.copying.proofs.copy_fours.Tie as tie
 
 abbrev Inv-loop : tie.InvT-loop
 Inv-loop out₀ at src k₀ out k = (k ≤ length src) × ((length out ≡ length out₀) × (out ≡ put at (take k src) out₀))

@@ -1,0 +1,20 @@
+-- When an entry of a WriteDevices message fails, said without what it does. It decides nothing: only theorems are stated with it.
+use mathlib.Core.Bool.{Bool, true, not, _||_}
+use lib.Dec.{ltb}
+use Rattle.devices.specs.declared.Device.{Device}
+use Rattle.devices.specs.declared.Device.the-variants.{Din, Rout, Unknown}
+use Rattle.devices.specs.Devices.{deviceOf}
+use Rattle.edits.specs.Edits.{relayFails}
+use Rattle.orders.specs.declared.Entry.{Entry}
+use Rattle.writes.specs.Writes.{inputSizeFits, relaySizeFits}
+
+-- 01, Messages offered, 23, what fails alone: an unknown ID, a wrong length of the block, an unknown flag (an input has 1, 2 and 4), or a relay's
+-- state above 1
+abbrev pub deviceFails : Device → Entry → Bool
+deviceFails (Din k) e = not (inputSizeFits (e .size) (e .flags)) || ltb 7 (e .flags)
+deviceFails (Rout k) e = not (relaySizeFits (e .size) (e .flags)) || relayFails (e .flags) (e .state)
+deviceFails Unknown e = true
+
+-- an entry, by the device of its ID
+abbrev pub entryFails : Entry → Bool
+entryFails e = deviceFails (deviceOf (e .id)) e
