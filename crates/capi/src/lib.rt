@@ -10,8 +10,8 @@ ghost use Rattle.halves.specs.Halves.{dropped};
 ghost use Rattle.board.specs.Calls.{levelCall, passCall, passedIn, connectCall, closeCall, collectCall, bytesCall, halvesAfter, roomsAfter, Ends, Answers};
 use board::Done;
 use powerup::Settings;
-use pulses::Pulse;
-use board::Settings;
+use ring::Pulse;
+use powerup::Settings;
 use ring::Pulse;
 use rows::ROWS;
 
