@@ -1,4 +1,1 @@
-pub mod Answering
-pub mod Keeping
-pub mod Same
 pub mod Timed

@@ -11,7 +11,8 @@ use Rattle.pulses.specs.declared.Time.{Time}
 use Rattle.pulses.specs.Pulses.{shortRow}
 use Rattle.pulses.proofs.Passing.{Passing, passing-done}
 use Rattle.plain.specs.Events.{timePassed}
-use Rattle.board.specs.Calls.{passCall, passedIn, Ends}
+use Rattle.pieces.specs.Effects.{Ends}
+use Rattle.board.specs.Calls.{passCall, passedIn}
 
 pub pass-ends : {row : List Pulse} {d : ℕ} {b z : Board} {t : Time} → Passing row d b t z → t .ends ≡ false → Ends (passCall d row b) z (passedIn (t .answer))
 unfolding passCall timePassed

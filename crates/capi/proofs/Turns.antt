@@ -11,7 +11,8 @@ use Rattle.pulses.specs.declared.Time.{Time}
 use Rattle.ring.specs.Ring.{pulseAt}
 use Rattle.pulses.specs.Passing.{Goes, turnOf}
 use Rattle.pulses.proofs.Passing.{Passing, waiting, passing-turn}
-use Rattle.board.specs.Calls.{passCall, passedIn, Ends}
+use Rattle.pieces.specs.Effects.{Ends}
+use Rattle.board.specs.Calls.{passCall, passedIn}
 
 -- how the loop's test came out, whose result y is the time's
 pub going-on : (y b : Bool) → T y → y ≡ b → b ≡ true

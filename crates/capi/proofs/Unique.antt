@@ -7,10 +7,12 @@ use denote.Ref.{now}
 use Rattle.rows.specs.Places.{Board}
 use Rattle.ring.specs.declared.Pulse.{Pulse}
 use Rattle.ring.specs.Ring.{rowAfter}
-use Rattle.board.specs.declared.Done.{Done}
+use Rattle.pieces.specs.declared.Done.{Done}
 use Rattle.halves.specs.Halves.{Halves}
-use Rattle.board.specs.Calls.{Effect, passCall, passedIn, bytesCall, halvesAfter, roomsAfter, Ends, Answers}
-use Rattle.board.proofs.Same.{ends, answers, halved}
+use Rattle.pieces.specs.Effects.{Effect, Ends, Answers}
+use Rattle.pieces.specs.Pieces.{bytesCall, halvesAfter, roomsAfter}
+use Rattle.board.specs.Calls.{passCall, passedIn}
+use Rattle.pieces.proofs.Same.{ends, answers, halved}
 use Rattle.capi.proofs.wellacorn_power_up.Reads as power-up
 use Rattle.capi.proofs.wellacorn_level.Reads as level
 use Rattle.capi.proofs.wellacorn_connect.Reads as connect

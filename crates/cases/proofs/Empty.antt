@@ -16,8 +16,8 @@ use native.Mathlib.Omega.{arith}
 use lib.ListN.{length, getD, replicate}
 use Rattle.laws.proofs.Tests.{by-cases}
 use Rattle.words.specs.Words.{fits, numberAt}
-use Rattle.framing.specs.Cut.{need, whole, cuts, messages, seen}
-use Rattle.framing.specs.Reading.{start}
+use Rattle.steps.specs.Cut.{need, whole, cuts, messages, seen}
+use Rattle.steps.specs.Steps.{start}
 use Rattle.changes.specs.Answers.{onRelay}
 use Rattle.judges.specs.Judges.{onChannel, judgeCommand}
 use Rattle.orders.specs.Orders.{commandOf, orderOf}

@@ -8,14 +8,16 @@ use Prim.Native.Nat.{ℕ}
 use native.Mathlib.Omega.{arith}
 use lib.ListN.{getD, replicate}
 use Rattle.laws.specs.Put.{put}
-use Rattle.framing.specs.Reading.{stepOf, firstOf, afterOf, roomOf, runOf}
+use Rattle.steps.specs.Steps.{stepOf, firstOf, afterOf}
+use Rattle.framing.specs.Reading.{roomOf, runOf}
 use Rattle.rows.specs.Places.{lineAt, putLine, onRows, queueOf}
 use Rattle.connections.specs.Lines.{openedLine, connected, closed}
 use Rattle.serving.specs.Serving.{servedMessage}
 use Rattle.ring.specs.Ring.{rowAfter}
 use Rattle.powerup.specs.PowerUp.{poweredUp}
 use Rattle.halves.specs.Halves.{Halves, halfAt, putHalf}
-use Rattle.board.specs.Calls.{connectCall, closeCall, bytesCall, halvesAfter, roomsAfter}
+use Rattle.pieces.specs.Pieces.{bytesCall, halvesAfter, roomsAfter}
+use Rattle.board.specs.Calls.{connectCall, closeCall}
 use Rattle.demand.specs.Demand.{Call, Answer, trace, Demand3}
 use Rattle.register.specs.Box.{served, Held, atPowerUp, run}
 use Rattle.cases.specs.Starred.{settings, noPulses}

@@ -6,7 +6,8 @@ use Rattle.laws.specs.Put.{put, rows}
 use Rattle.laws.specs.Each.{anyBelow}
 use Rattle.laws.specs.Chunks.{chunks}
 use Rattle.words.specs.Words.{fits, numberAt}
-use Rattle.framing.specs.Reading.{stepOf, firstOf, afterOf, roomOf, runOf}
+use Rattle.steps.specs.Steps.{stepOf, firstOf, afterOf}
+use Rattle.framing.specs.Reading.{roomOf, runOf}
 use Rattle.rows.specs.Places.{inputAt, relayAt, lineAt, putInput, putRelay, putLine, onRows, queueOf}
 use Rattle.alarms.specs.Alarms.{alarmState, countAlarm, usageAlarm}
 use Rattle.changes.specs.Answers.{onInput, onRelay}
@@ -30,7 +31,8 @@ use Rattle.serving.specs.Serving.{servedContent, servedMessage}
 use Rattle.ring.specs.Ring.{rowAfter}
 use Rattle.powerup.specs.PowerUp.{poweredUp}
 use Rattle.halves.specs.Halves.{halfAt, putHalf}
-use Rattle.board.specs.Calls.{levelCall, connectCall, collectCall, bytesCall, halvesAfter, roomsAfter}
+use Rattle.pieces.specs.Pieces.{bytesCall, halvesAfter, roomsAfter}
+use Rattle.board.specs.Calls.{levelCall, connectCall, collectCall}
 use Rattle.cases.specs.Starred.{Row, countTop, toldAgain, blockCases, channelEdges, lengthCases, writeCases, starredCases}
 
 -- every row of them does what 01 owes

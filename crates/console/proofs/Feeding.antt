@@ -10,9 +10,10 @@ use Rattle.laws.specs.Put.{put}
 use Rattle.laws.proofs.Put.{length-put, put-front, put-none}
 use Rattle.answers.specs.Calls.{refused}
 use Rattle.rows.specs.Places.{Board}
-use Rattle.board.specs.declared.Done.{Done}
+use Rattle.pieces.specs.declared.Done.{Done}
 use Rattle.halves.specs.Halves.{Halves}
-use Rattle.board.specs.Calls.{Answers, still, doneOf, bytesCall, halvesAfter, roomsAfter}
+use Rattle.pieces.specs.Effects.{Answers, still, doneOf}
+use Rattle.pieces.specs.Pieces.{bytesCall, halvesAfter, roomsAfter}
 use Rattle.console.specs.declared.Parsed.{Parsed}
 use Rattle.console.specs.declared.Parsed.the-variants.{Bytes, Bad}
 use Rattle.console.specs.Digits.{parsed, told, bytesIn}

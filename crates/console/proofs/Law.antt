@@ -13,10 +13,10 @@ use lib.Dec.{eqb, leb, ltb}
 use lib.ListN.{length, set, take, length-append, length-set, length-take}
 use lib.Seq.{take-all, take-append-le, take-suc-set}
 use Rattle.laws.proofs.Tests.{by-cases}
-use Rattle.framing.specs.Cut.{joined}
+use Rattle.steps.specs.Cut.{joined}
 use Rattle.rows.specs.Places.{Board}
 use Rattle.halves.specs.Halves.{Halves}
-use Rattle.board.specs.Calls.{Effect}
+use Rattle.pieces.specs.Effects.{Effect}
 use Rattle.console.specs.Digits.{feeds, parsed}
 use Rattle.console.specs.Lines.{onFirst, linesOf, started, startedHalves, lineCall, lineHalves, lineRooms, shown, printed}
 use Rattle.console.specs.Console.{Held, held, lineHeld, ended, kept, step, says, run, said, saidAtEnd, saidOf}

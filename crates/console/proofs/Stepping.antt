@@ -17,7 +17,7 @@ use Rattle.words.specs.Words.{Stored}
 use Rattle.words.proofs.Laws.{stored}
 use Rattle.rows.specs.Places.{Board}
 use Rattle.writers.specs.Writers.{relaysOf}
-use Rattle.board.specs.declared.Done.{Done}
+use Rattle.pieces.specs.declared.Done.{Done}
 use Rattle.halves.specs.Halves.{Halves}
 use Rattle.console.specs.Digits.{relayBits, shownOf}
 use Rattle.console.specs.Lines.{shown}

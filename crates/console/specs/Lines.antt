@@ -5,12 +5,14 @@ use mathlib.Core.Option.{Option, none, some}
 use Prim.Native.Nat.{ℕ}
 use lib.Dec.{eqb}
 use Rattle.answers.specs.Calls.{refused}
-use Rattle.framing.specs.Reading.{start}
+use Rattle.steps.specs.Steps.{start}
 use Rattle.rows.specs.Places.{Board}
 use Rattle.writers.specs.Writers.{relaysOf}
 use Rattle.powerup.specs.PowerUp.{blankSettings, poweredUp}
 use Rattle.halves.specs.Halves.{Halves, putHalf}
-use Rattle.board.specs.Calls.{Effect, still, connectCall, bytesCall, halvesAfter, roomsAfter}
+use Rattle.pieces.specs.Effects.{Effect, still}
+use Rattle.pieces.specs.Pieces.{bytesCall, halvesAfter, roomsAfter}
+use Rattle.board.specs.Calls.{connectCall}
 use lib.ListN.{replicate}
 use Rattle.console.specs.Digits.{parsed, relayBits, shownOf}
 

@@ -3,8 +3,8 @@ use mathlib.Core.Path.{_≡_}
 use mathlib.Core.List.{List}
 use Prim.Native.Nat.{ℕ, _≤_, _<_}
 use lib.ListN.{length, drop}
-use Rattle.framing.specs.declared.Half.{Half}
-use Rattle.framing.specs.declared.Outcome.{Outcome}
+use Rattle.steps.specs.declared.Half.{Half}
+use Rattle.steps.specs.declared.Outcome.{Outcome}
 use Rattle.framing.specs.declared.Fed.{Fed}
 use Rattle.framing.specs.Reading.{Run, run, onward, runOf}
 

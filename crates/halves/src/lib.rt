@@ -2,10 +2,10 @@
 // every input. The content read so far stands in the connection's room, which the definitions place and only the framing writes.
 
 ghost use mathlib.Core.Path.{_≡_};
-ghost use Rattle.framing.specs.Reading.{start, halfAfter};
+ghost use Rattle.steps.specs.Steps.{start, halfAfter};
 ghost use Rattle.halves.specs.Halves.{halfIn, halfWords, halfAt, putHalf, dropped};
-use framing::Half;
-use framing::Outcome;
+use steps::Half;
+use steps::Outcome;
 
 fn nothing_read() -> Half
     ensures { λ r. ⌜ r ≡ start ⌝ }

@@ -11,8 +11,9 @@ use lib.ListN.{length, set, drop, length-take, length-set}
 use borrow.Author.Tests.{le-ltb}
 use Rattle.laws.proofs.Put.{length-put}
 use Rattle.laws.proofs.Tests.{by-cases}
-use Rattle.framing.specs.Cut.{Got}
-use Rattle.framing.specs.Reading.{start, gotOf, halfAfter}
+use Rattle.steps.specs.Cut.{Got}
+use Rattle.steps.specs.Steps.{start, halfAfter}
+use Rattle.framing.specs.Reading.{gotOf}
 use Rattle.framing.proofs.Turns.{length-run}
 use Rattle.rows.specs.Rows.{lineIn, lineWords, shutLine}
 use Rattle.rows.specs.Places.{Board, isConnection, rowAt, lineAt, putLine, linePlace, queueOf}
@@ -23,7 +24,7 @@ use Rattle.connections.specs.Lines.{openedLine, isOpen, connected, closed}
 use Rattle.plain.specs.Events.{tooShort}
 use Rattle.halves.specs.Halves.{Halves, halfAt, putHalf, dropped}
 use Rattle.halves.specs.Rooms.{roomAt, putRoom}
-use Rattle.board.specs.Calls.{answered, fed, fedCall, bytesCall, halvesAfter, roomsAfter}
+use Rattle.pieces.specs.Pieces.{answered, fed, fedCall, bytesCall, halvesAfter, roomsAfter}
 use Rattle.register.specs.Box.{Reply, Tables, refusalOf}
 use Rattle.register.proofs.Cases.{bytes-cases, connect-cases, close-cases}
 use Rattle.register.proofs.Touching.{Touches, still, line-apart, message-touches}

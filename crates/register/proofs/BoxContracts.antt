@@ -14,9 +14,9 @@ use lib.Dec.{leb}
 use lib.ListN.{length, take, length-take}
 use denote.Ref.{now}
 use Rattle.laws.proofs.Put.{put-here}
-use Rattle.framing.specs.declared.Outcome.{Outcome}
-use Rattle.framing.specs.declared.Outcome.the-variants.{Waiting, KeepAlive, Stray, Message}
-use Rattle.framing.specs.Cut.{frame, tooLong}
+use Rattle.steps.specs.declared.Outcome.{Outcome}
+use Rattle.steps.specs.declared.Outcome.the-variants.{Waiting, KeepAlive, Stray, Message}
+use Rattle.steps.specs.Cut.{frame, tooLong}
 use Rattle.framing.specs.Reading.{gotOf}
 use Rattle.orders.specs.Orders.{orderOf}
 use Rattle.readings.specs.Readings.{monitorReply}
@@ -33,8 +33,10 @@ use Rattle.serving.specs.Obeying.{obeyed}
 use Rattle.serving.specs.Serving.{servedContent, servedMessage}
 use Rattle.serving.proofs.Lengths as serving
 use Rattle.halves.specs.Halves.{Halves}
-use Rattle.board.specs.declared.Done.{Done}
-use Rattle.board.specs.Calls.{Effect, Ends, Answers, answered, fed, levelCall, passCall, connectCall, closeCall, collectCall, bytesCall, halvesAfter, roomsAfter}
+use Rattle.pieces.specs.declared.Done.{Done}
+use Rattle.pieces.specs.Effects.{Effect, Ends, Answers}
+use Rattle.pieces.specs.Pieces.{answered, fed, bytesCall, halvesAfter, roomsAfter}
+use Rattle.board.specs.Calls.{levelCall, passCall, connectCall, closeCall, collectCall}
 use Rattle.powerup.proofs.power_up.Reads as power-up
 use Rattle.board.proofs.level.Reads as level
 use Rattle.board.proofs.connect.Reads as connect

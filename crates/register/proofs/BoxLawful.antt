@@ -9,8 +9,9 @@ use borrow.Author.Tests.{eqb-true}
 use lib.Dec.{eqb}
 use lib.ListN.{length}
 use Rattle.laws.proofs.Tests.{by-cases}
-use Rattle.framing.specs.Cut.{Got}
-use Rattle.framing.specs.Reading.{start, Run, gotOf, halfAfter}
+use Rattle.steps.specs.Cut.{Got}
+use Rattle.steps.specs.Steps.{start, halfAfter}
+use Rattle.framing.specs.Reading.{Run, gotOf}
 use Rattle.framing.proofs.Turns.{length-run}
 use Rattle.rows.specs.declared.Line.{Line}
 use Rattle.pulses.specs.Pulses.{shortRow}
@@ -22,8 +23,9 @@ use Rattle.serving.specs.Serving.{servedMessage}
 use Rattle.connections.proofs.Lines.{open-below}
 use Rattle.halves.specs.Halves.{halfAt}
 use Rattle.halves.specs.Rooms.{roomAt}
-use Rattle.board.specs.Calls.{answered, fed, levelCall, passCall, connectCall, closeCall, collectCall, bytesCall, halvesAfter, roomsAfter}
-use Rattle.board.proofs.Keeping as keeping
+use Rattle.pieces.specs.Pieces.{answered, fed, bytesCall, halvesAfter, roomsAfter}
+use Rattle.board.specs.Calls.{levelCall, passCall, connectCall, closeCall, collectCall}
+use Rattle.pieces.proofs.Keeping as keeping
 use Rattle.halves.proofs.Rooms.{room-long, room-again}
 use Rattle.demand.specs.Plain.{OnlyOpen}
 use Rattle.demand.specs.Demand.{refused, did, Call, bytes, other, feedsTo, Answer, answer, Meets}

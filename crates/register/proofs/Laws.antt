@@ -20,7 +20,7 @@ use Rattle.laws.specs.Put.{put}
 use Rattle.laws.proofs.Put.{put-none}
 use Rattle.laws.proofs.Tests.{by-cases}
 use Rattle.words.specs.Words.{numberAt}
-use Rattle.framing.specs.Cut.{Got, frame}
+use Rattle.steps.specs.Cut.{Got, frame}
 use Rattle.framing.specs.Reading.{Run, gotOf}
 use Rattle.rows.specs.Rows.{word}
 use Rattle.rows.specs.Places.{Board, rowAt, lineAt, clockSet, clockRow}
@@ -38,7 +38,8 @@ use Rattle.answers.specs.Calls.{Did, did, refused}
 use Rattle.serving.specs.Obeying.{clockTold, obeyed}
 use Rattle.serving.specs.Serving.{servedContent, servedMessage}
 use Rattle.halves.specs.Halves.{Halves, halfAt, dropped}
-use Rattle.board.specs.Calls.{answered, fed, levelCall, passCall, connectCall, closeCall, collectCall, bytesCall}
+use Rattle.pieces.specs.Pieces.{answered, fed, bytesCall}
+use Rattle.board.specs.Calls.{levelCall, passCall, connectCall, closeCall, collectCall}
 use Rattle.demand.specs.Demand.{Call, bytes, other}
 use Rattle.register.specs.Box.{Event, level, pass, connect, close, collect, Tables, happens, served, beforeBytes, Held, held, tablesOf, eventCall, effectOf, halvesOf, boxCall}
 use Rattle.register.specs.Laws.{TypeSeven, ButClock, Untouched, eventOn, callOn, Kept}

@@ -6,7 +6,7 @@ use mathlib.Core.List.{List}
 use Prim.Native.Nat.{ℕ}
 use lib.Dec.{eqb, ltb}
 use Rattle.laws.proofs.Tests.{by-cases}
-use Rattle.framing.specs.Cut.{Got, keepAlive, stray, tooLong, frame}
+use Rattle.steps.specs.Cut.{Got, keepAlive, stray, tooLong, frame}
 use Rattle.rows.specs.declared.Input.{Input}
 use Rattle.rows.specs.declared.Relay.{Relay}
 use Rattle.rows.specs.Places.{Board, isChannel, lineAt, queueOf}

@@ -1,7 +1,7 @@
 -- For one input, two answers that a contract of the crate board allows are equal, and so is what is left of what was lent.
 use mathlib.Core.Path.{_≡_, sym, _∙_}
 use denote.Ref.{now}
-use Rattle.board.proofs.Same.{ends, answers, halved}
+use Rattle.pieces.proofs.Same.{ends, answers, halved}
 use Rattle.board.proofs.level.Reads as level
 use Rattle.board.proofs.passed.Reads as passed
 use Rattle.board.proofs.connect.Reads as connect

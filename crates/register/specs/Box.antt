@@ -14,10 +14,12 @@ use Rattle.ring.specs.declared.Pulse.{Pulse}
 use Rattle.pulses.specs.Pulses.{shortRow}
 use Rattle.ring.specs.Ring.{rowAfter}
 use Rattle.halves.specs.Halves.{Halves, dropped}
-use Rattle.board.specs.declared.Done.{Done}
+use Rattle.pieces.specs.declared.Done.{Done}
 use Rattle.powerup.specs.declared.Settings.{Settings}
 use Rattle.powerup.specs.PowerUp.{poweredUp}
-use Rattle.board.specs.Calls.{Effect, doneOf, levelCall, passCall, connectCall, closeCall, collectCall, bytesCall, halvesAfter, roomsAfter}
+use Rattle.pieces.specs.Effects.{Effect, doneOf}
+use Rattle.pieces.specs.Pieces.{bytesCall, halvesAfter, roomsAfter}
+use Rattle.board.specs.Calls.{levelCall, passCall, connectCall, closeCall, collectCall}
 use Rattle.demand.specs.Plain.{Serving}
 use Rattle.demand.specs.Demand.{Said, waits, refused, did, Call, bytes, other, Answer, answer, Machine, Trace, View, final, trace, begins}
 

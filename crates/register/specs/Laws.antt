@@ -8,11 +8,11 @@ use lib.ListN.{getD}
 use Rattle.laws.specs.Put.{put}
 use Rattle.words.specs.Words.{numberAt}
 use Rattle.rows.specs.Rows.{word}
-use Rattle.framing.specs.Cut.{Got, keepAlive, stray, tooLong, frame}
+use Rattle.steps.specs.Cut.{Got, keepAlive, stray, tooLong, frame}
 use Rattle.rows.specs.Places.{Board, clockRow, rowAt, inputAt, lineAt}
 use Rattle.halves.specs.Halves.{halfAt}
 use Rattle.halves.specs.Rooms.{roomAt}
-use Rattle.board.specs.Calls.{Effect}
+use Rattle.pieces.specs.Effects.{Effect}
 use Rattle.demand.specs.Demand.{Call, bytes, other}
 use Rattle.register.specs.Box.{Event, level, pass, connect, close, collect, Held, served}
 use Rattle.marks.specs.Marks.{withDue}

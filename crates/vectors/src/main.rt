@@ -1,13 +1,14 @@
 // Runs the published strings and frames, and frames at the edges of document 01, and prints what becomes of each.
 // What it must print is in `stdout`, taken from the documents (docs/VECTORS.md says which line from where).
 
-use board::Done;
+use frames::Judged;
 use framing::Fed;
-use framing::Half;
-use framing::Outcome;
+use pieces::Done;
 use powerup::InputSettings;
 use powerup::Settings;
 use rows::ROWS;
+use steps::Half;
+use steps::Outcome;
 
 fn text(s: &[u8]) {
     io::write_all(1, s);
@@ -47,8 +48,11 @@ fn verdict(o: Outcome, room: &[u8; 1024]) -> u8 {
         Outcome::Stray => 5,
         Outcome::Message(len, sum) => {
             let j = frames::judge(len, sum, room, false);
-            let no = frames::refusal(j);
-            if no == 0 { 1 } else { no }
+            match j {
+                Judged::TooLong => 6,
+                Judged::BadSum => 7,
+                Judged::Whole => 1,
+            }
         }
     }
 }

@@ -42,16 +42,17 @@ use denote.Exit.{yes}
 use Rattle.rows.specs.Places.{Board, queueOf}
 use Rattle.ring.specs.declared.Pulse.{Pulse}
 use Rattle.ring.specs.Ring.{seatOf, newest, rowAfter}
-use Rattle.board.specs.declared.Done.{Done}
+use Rattle.pieces.specs.declared.Done.{Done}
 use Rattle.board.specs.declared.Taken.{Taken}
-use Rattle.board.specs.Calls.{Effect, bytesCall, halvesAfter, roomsAfter, Answers}
+use Rattle.pieces.specs.Effects.{Effect, Answers}
+use Rattle.pieces.specs.Pieces.{bytesCall, halvesAfter, roomsAfter}
 use Rattle.capi.proofs.Calling.{token, told, gets, asks-one, all-said, four}
 use Rattle.capi.proofs.Types.{board-type, board-slot, board-ref}
 use Rattle.capi.proofs.Stored.{stored}
 use Rattle.ring.proofs.Pulse as P
 use Rattle.ring.proofs.Pulse.Laws as P′
-use Rattle.board.proofs.Done as D
-use Rattle.board.proofs.Done.Laws as D′
+use Rattle.pieces.proofs.Done as D
+use Rattle.pieces.proofs.Done.Laws as D′
 use Rattle.board.proofs.Taken as X
 use Rattle.board.proofs.Taken.Laws as X′
 use Rattle.board.proofs.bytes as bytes

@@ -44,15 +44,16 @@ use Rattle.rows.specs.Places.{Board, queueOf}
 use Rattle.ring.specs.declared.Pulse.{Pulse}
 use Rattle.pulses.specs.Pulses.{shortRow, endsWithin, waited}
 use Rattle.pulses.proofs.Passing.{passing-at-once}
-use Rattle.board.specs.declared.Done.{Done}
-use Rattle.board.specs.Calls.{passCall, passedIn, Ends}
+use Rattle.pieces.specs.declared.Done.{Done}
+use Rattle.pieces.specs.Effects.{Ends}
+use Rattle.board.specs.Calls.{passCall, passedIn}
 use Rattle.board.proofs.Timed.{pass-ends}
 use Rattle.capi.proofs.Calling.{at-value, OwnAt, token, told, gets, asks-one, lends, back, both}
 use Rattle.capi.proofs.Turns.{going-on, over, pulsed-ends}
 use Rattle.capi.proofs.Types.{board-type, board-slot, board-ref}
 use Rattle.ring.proofs.Pulse as P
-use Rattle.board.proofs.Done as D
-use Rattle.board.proofs.Done.Laws as D′
+use Rattle.pieces.proofs.Done as D
+use Rattle.pieces.proofs.Done.Laws as D′
 use Rattle.pulses.proofs.at_once as at-once
 use Rattle.pulses.proofs.at_once.Symbol as at-once-def
 use Rattle.pulses.proofs.at_once.Symbol.{name as #pulses·at-once}

@@ -47,7 +47,8 @@ use Rattle.pulses.specs.declared.Time.{Time}
 use Rattle.ring.specs.Ring.{pulseAt}
 use Rattle.pulses.specs.Passing.{Goes, startOf, turnOf}
 use Rattle.pulses.proofs.Passing.{Passing, waiting, passing-start}
-use Rattle.board.specs.Calls.{passCall, passedIn, Ends}
+use Rattle.pieces.specs.Effects.{Ends}
+use Rattle.board.specs.Calls.{passCall, passedIn}
 use Rattle.board.proofs.Timed.{pass-ends}
 use Rattle.capi.proofs.Calling.{rest-of, at-value, OwnAt, token, told, gets, asks-one, lends, back}
 use Rattle.capi.proofs.Turns.{going-on, over, turned}
