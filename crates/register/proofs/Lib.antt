@@ -13,4 +13,5 @@ pub mod UniqueTables
 pub mod UniqueChanges
 pub mod UniquePlain
 pub mod UniqueBoard
+pub mod Longest
 pub mod BoxContracts
