@@ -1,29 +1,30 @@
--- The four empty versions do not meet demand 3 of the box.
---     shut-out-refusing       refuses everything
---     shut-out-same-number    answers the same number always
---     shut-out-same-bytes     replies the same bytes always
+-- The four empty versions do not meet demand 3 of the box, where connection 0 was opened at rank 2 at power-up: they are told by whole frames alone.
+--     shut-out-refusing       refuses every frame
+--     shut-out-same-number    answers every frame with the same number
+--     shut-out-same-bytes     answers every frame with the same bytes
 --     shut-out-waiting        takes bytes and does nothing: it only waits
 --     shut-out-starving       takes no bytes
 --     shut-out-frozen         takes bytes and leaves the tables as they are
 --     shut-out-nodding        serves only the first message and then nods
---     meets-opened            the box itself meets it from where these are tried, so that nothing is shut out for want of a machine
+--     opens-so                a machine that meets the demand from power-up on comes to where these are tried, and meets it from there
+--     meets-opened            so does the box itself, so that nothing is shut out for want of a machine
 --     shut-out-inventing      invents a number, a length, bytes taken or a count: in anything it shows it differs from the box
 use mathlib.Core.Path.{_≡_, refl, sym, ap, _∙_}
+use mathlib.Core.Bool.{Bool, true, false, true≢false}
 use mathlib.Core.List.{List, [], _∷_}
 use mathlib.Core.Option.{none}
-use Prim.Native.Nat.{ℕ, zero, suc}
+use Prim.Native.Nat.{ℕ}
 use native.Mathlib.Omega.{arith}
-use lib.ListN.{length, getD, replicate}
-use Rattle.laws.proofs.Tests.{by-cases}
+use lib.ListN.{length, getD}
 use Rattle.words.specs.Words.{fits, numberAt}
 use Rattle.steps.specs.Cut.{need, whole, cuts, messages, seen}
 use Rattle.steps.specs.Steps.{start}
 use Rattle.changes.specs.Answers.{onRelay}
-use Rattle.judges.specs.Judges.{onChannel, judgeCommand}
-use Rattle.orders.specs.Orders.{commandOf, orderOf}
+use Rattle.judges.specs.Judges.{onChannel, judgeCommand, sizedRequest, judgeRequest}
+use Rattle.orders.specs.Orders.{commandOf, orderOf, requestOf}
 use Rattle.writers.specs.Writers.{relaysOf}
 use Rattle.readings.specs.Readings.{monitorReply}
-use Rattle.rows.specs.Places.{isConnection, relayAt, lineAt, putRelay, putLine, onRows, queueOf}
+use Rattle.rows.specs.Places.{isConnection, relayAt, lineAt, putRelay, putLine, onRows, queueOf, Board}
 use Rattle.ring.specs.declared.Pulse.{Pulse}
 use Rattle.connections.specs.Lines.{openedLine, connected}
 use Rattle.marks.specs.Marks.{markedRow, marked}
@@ -36,134 +37,154 @@ use Rattle.halves.specs.Halves.{Halves, halfIn, halfAt, putHalf}
 use Rattle.powerup.specs.PowerUp.{poweredUp}
 use Rattle.board.specs.Calls.{connectCall}
 use Rattle.demand.specs.Demand.{Call, bytes, other, Answer, Machine, final, trace, begins, Meets}
-use Rattle.demand.proofs.Following.{answers-now, answers-after, answers-all}
-use Rattle.demand.proofs.Empty.{Waiting, Frozen, Starving, Nodding, whole-served, not-idle, not-starving, not-frozen, not-nodding}
+use Rattle.demand.proofs.Following.{answers-now, answers-after, answers-all, reaches}
+use Rattle.demand.specs.Empty.{Waiting, Frozen, Starving, Nodding, OneFrame}
+use Rattle.demand.proofs.Empty.{whole-served, not-idle, not-starving, not-frozen, not-nodding, meets-on}
+use Rattle.rows.specs.declared.Line.{Line}
+use Rattle.pulses.specs.Pulses.{shortRow}
 use Rattle.demand.proofs.Taking.{rest-none}
-use Rattle.register.specs.Box.{connect, collect, Reply, replyOf, Tables, refusalOf, served, tablesOf, box, ends, run}
-use Rattle.cases.specs.Starred.{settings, after, relayBits}
+use Rattle.register.specs.Box.{connect, Reply, replyOf, Tables, refusalOf, served, tablesOf, box, atPowerUp, ends, run}
+use Rattle.cases.specs.Starred.{settings}
 use Rattle.cases.specs.Empty.{shown, poweredTables, opened, RefusesAll, SameNumber, SameBytes}
-use Rattle.register.proofs.BoxDemand.{box-determined}
-use Rattle.register.proofs.BoxLawful.{Sound, box-meets}
+use Rattle.register.proofs.BoxDemand.{box-steady, box-demand-3, box-determined}
 
--- a toggle of relay 1, a whole message
+-- THREE FRAMES: a toggle of relay 1, one of relay 9, which there is not, and a request for the clock
 abbrev toggle : List ℕ
 toggle = 0x01 ∷ 0x00 ∷ 0x04 ∷ 0xFF ∷ 0xFF ∷ 0x0A ∷ 0x03 ∷ 0x00 ∷ 0x01 ∷ []
 
-toggle-whole : messages toggle ≡ toggle ∷ []
+abbrev toggleNine : List ℕ
+toggleNine = 0x01 ∷ 0x00 ∷ 0x04 ∷ 0xFF ∷ 0xFF ∷ 0x0A ∷ 0x03 ∷ 0x00 ∷ 0x09 ∷ []
+
+abbrev askClock : List ℕ
+askClock = 0x01 ∷ 0x00 ∷ 0x03 ∷ 0xFF ∷ 0xFF ∷ 0x05 ∷ 0x00 ∷ 0x00 ∷ []
+
+toggle-frame : OneFrame toggle
 unfolding messages cuts whole need
-toggle-whole = refl
+toggle-frame = record { begun = refl; whole = refl }
 
--- the plain machine after it
+nine-frame : OneFrame toggleNine
+unfolding messages cuts whole need
+nine-frame = record { begun = refl; whole = refl }
+
+clock-frame : OneFrame askClock
+unfolding messages cuts whole need
+clock-frame = record { begun = refl; whole = refl }
+
+-- what each is owed, on any board on which connection 0 has rank 2
+module _ (p : Board) (h : lineAt 0 p .rank ≡ 2) where
+  toggle-reply : replyOf (servedMessage 0 (seen 1024 toggle) p) ≡ record { number = 1; sent = [] }
+  unfolding seen servedMessage servedContent orderOf commandOf judgeCommand onChannel fits numberAt obeyed onRelay
+  toggle-reply = rw h
+
+  nine-number : servedMessage 0 (seen 1024 toggleNine) p .answer ≡ 11
+  unfolding seen servedMessage servedContent orderOf commandOf judgeCommand onChannel fits numberAt obeyed
+  nine-number = rw h
+
+  clock-begins : getD (servedMessage 0 (seen 1024 askClock) p .reply) 0 0 ≡ 1
+  unfolding seen servedMessage servedContent orderOf requestOf judgeRequest sizedRequest fits numberAt obeyed
+  clock-begins = rw h
+
+-- AFTER THE OPENING connection 0 is open at rank 2, and relay 1 open; each toggle changes that
+first-line : lineAt 0 (connected 0 2 (poweredUp settings) .board) ≡ openedLine 2
+unfolding lineAt putLine onRows poweredUp connected openedLine
+first-line = refl
+
+rank-two : lineAt 0 (connected 0 2 (poweredUp settings) .board) .rank ≡ 2
+unfolding openedLine
+rank-two = ap (λ (l : Line). l .rank) first-line
+
+abbrev closedOne : Tables → Bool
+closedOne t = relayAt 1 (t .board) .closed
+
 abbrev toggled : Tables → Tables
-toggled p = served .serve p 0 (seen 1024 toggle) .0
+toggled t = served .serve t 0 (seen 1024 toggle) .0
 
--- it changes relay 1, and again when it comes again
-changes-once : relayBits (toggled opened .board) ≡ 1
-unfolding relaysOf relayAt lineAt putRelay putLine onRows poweredUp connectCall connected openedLine seen servedMessage servedContent orderOf commandOf judgeCommand onChannel fits numberAt obeyed onRelay marked markedRow rowAfter queueOf
-changes-once = refl
+module _ (row : List Pulse) where
+  not-yet : closedOne (opened row) ≡ false
+  unfolding relayAt lineAt putLine onRows poweredUp connected
+  not-yet = refl
 
-changes-twice : relayBits (toggled (toggled opened) .board) ≡ 0
-unfolding relaysOf relayAt lineAt putRelay putLine onRows poweredUp connectCall connected openedLine seen servedMessage servedContent orderOf commandOf judgeCommand onChannel fits numberAt obeyed onRelay marked markedRow rowAfter queueOf
-changes-twice = refl
+  changes-once : closedOne (toggled (opened row)) ≡ true
+  unfolding relayAt lineAt putRelay putLine onRows poweredUp connected openedLine seen servedMessage servedContent orderOf commandOf judgeCommand onChannel fits numberAt obeyed onRelay marked markedRow
+  changes-once = refl
 
-not-yet : relayBits (opened .board) ≡ 0
-unfolding relaysOf relayAt lineAt putRelay putLine onRows poweredUp connectCall connected
-not-yet = refl
+  changes-twice : closedOne (toggled (toggled (opened row))) ≡ false
+  unfolding relayAt lineAt putRelay putLine onRows poweredUp connected openedLine seen servedMessage servedContent orderOf commandOf judgeCommand onChannel fits numberAt obeyed onRelay marked markedRow
+  changes-twice = refl
 
--- connection 0 takes bytes then
-takes-bytes : refusalOf opened 0 4096 ≡ none
-unfolding relaysOf relayAt lineAt putRelay putLine onRows poweredUp connectCall connected openedLine
-takes-bytes = refl
+-- a row of pulses that is long enough
+module _ (row : List Pulse) (long : shortRow (length row) ≡ false) where
+  takes-bytes : refusalOf (opened row) 0 4096 ≡ none
+  unfolding openedLine
+  takes-bytes = rw (ap (λ (l : Line). l .isOpen) first-line, long)
 
-takes-more : refusalOf (toggled opened) 0 4096 ≡ none
-unfolding relaysOf relayAt lineAt putRelay putLine onRows poweredUp connectCall connected openedLine seen servedMessage servedContent orderOf commandOf judgeCommand onChannel fits numberAt obeyed onRelay marked markedRow rowAfter queueOf
-takes-more = refl
+  module _ (M : Machine served) (x : M .State) (D : Meets served M x) (up : M .tables x ≡ opened row) where
+    ready : refusalOf (M .tables x) 0 4096 ≡ none
+    ready = rw up takes-bytes
 
--- at power-up: an opening of connection 0 is served, one of connection 4 is refused
-opening-served : connected 0 2 (poweredUp settings) .answer ≡ 1
-unfolding relaysOf relayAt lineAt putRelay putLine onRows poweredUp connected
-opening-served = refl
+    -- the answer to a frame that comes first
+    first-reply : (m : List ℕ) → OneFrame m
+        → shown (M .call x (bytes 0 4096 m) .1 .said) ≡ replyOf (servedMessage 0 (seen 1024 m) (opened row .board))
+    first-reply m w = rw (ap (λ (y : Tables × Answer served). y .1) (whole-served served M x D [] 0 4096 m (w .whole) rest-none ready), up)
 
-opening-refused : connected 4 2 (poweredUp settings) .answer ≡ 3
-unfolding connected
-opening-refused = refl
+    toggle-first : shown (M .call x (bytes 0 4096 toggle) .1 .said) ≡ record { number = 1; sent = [] }
+    toggle-first = first-reply toggle toggle-frame ∙ toggle-reply (opened row .board) rank-two
 
--- an opening sends nothing; a collection behind it sends a frame, which begins with 0x01
-opening-silent : connected 0 2 (poweredUp settings) .reply ≡ []
-unfolding relaysOf relayAt lineAt putRelay putLine onRows poweredUp connected
-opening-silent = refl
+    pub shut-out-refusing : RefusesAll M x → ⊥
+    shut-out-refusing R =
+        omega (arith, R 0 4096 toggle (record { taking = ready; frame = toggle-frame }), ap (λ (r : Reply). r .number) toggle-first)
 
-collection-sends : getD (collected 0 4096 (connected 0 2 (poweredUp settings) .board) .reply) 0 0 ≡ 1
-unfolding relaysOf relayAt lineAt putRelay putLine onRows poweredUp connected openedLine collected monitorSent monitorReply
-collection-sends = refl
+    pub shut-out-same-number : (n : ℕ) → SameNumber M x n → ⊥
+    shut-out-same-number n S =
+        omega (
+          arith,
+          S 0 4096 toggle (record { taking = ready; frame = toggle-frame }),
+          ap (λ (r : Reply). r .number) toggle-first,
+          S 0 4096 toggleNine (record { taking = ready; frame = nine-frame }),
+          ap (λ (r : Reply). r .number) (first-reply toggleNine nine-frame),
+          nine-number (opened row .board) rank-two,
+        )
 
-module _ (M : Machine served) (x : M .State) (D : Meets served M x) (row : List Pulse) (up : M .tables x ≡ poweredTables settings row) where
-  -- the answer to a first call that is an opening, and that to a collection behind it
-  first-reply : (c : ℕ) → shown (M .call x (other (connect c 2)) .1 .said) ≡ replyOf (connected c 2 (poweredUp settings))
-  first-reply c = rw (answers-now served M x (begins served M x) (answers-all served M x D) (other (connect c 2)), up)
+    pub shut-out-same-bytes : (bs : List ℕ) → SameBytes M x bs → ⊥
+    shut-out-same-bytes bs S =
+        let silent : bs ≡ [] = sym (S 0 4096 toggle (record { taking = ready; frame = toggle-frame })) ∙ ap (λ (r : Reply). r .sent) toggle-first in
+        let begins-one : getD bs 0 0 ≡ 1 =
+        ap (λ (l : List ℕ). getD l 0 0)
+        (sym (S 0 4096 askClock (record { taking = ready; frame = clock-frame })) ∙ ap (λ (r : Reply). r .sent) (first-reply askClock clock-frame))
+        ∙ clock-begins (opened row .board) rank-two in
+        omega (arith, ap (λ (l : List ℕ). getD l 0 0) silent, begins-one)
 
-  first-number : (c : ℕ) → shown (M .call x (other (connect c 2)) .1 .said) .number ≡ connected c 2 (poweredUp settings) .answer
-  first-number c = ap (λ (r : Reply). r .number) (first-reply c)
+    pub shut-out-waiting : Waiting served M x → ⊥
+    shut-out-waiting I = not-idle served M x D I 0 4096 ready
 
-  abbrev open-first : List (Call served)
-  open-first = other (connect 0 2) ∷ []
+    pub shut-out-starving : Starving served M x → ⊥
+    shut-out-starving I = not-starving served M x D I 0 4096 ready
 
-  next-reply : shown (M .call (final served M x open-first) (other (collect 0 4096)) .1 .said)
-      ≡ replyOf (collected 0 4096 (connected 0 2 (poweredUp settings) .board))
-  next-reply =
-      rw (answers-now served M (final served M x open-first) _ (answers-after served M x (begins served M x) (answers-all served M x D) open-first) (other (collect 0 4096)), up)
+    pub shut-out-frozen : Frozen served M x → ⊥
+    shut-out-frozen I = not-frozen served M x D I 0 4096 toggle ready toggle-frame
+        (rw up (λ e. true≢false (sym (changes-once row) ∙ ap closedOne e ∙ not-yet row)))
 
-  pub shut-out-refusing : RefusesAll M x → ⊥
-  shut-out-refusing R = omega (arith, R (other (connect 0 2)), first-number 0, opening-served)
+    -- the tables after the first message
+    first-done : M .tables (M .call x (bytes 0 4096 toggle) .0) ≡ toggled (opened row)
+    first-done =
+        ap (λ (y : Tables × Answer served). y .0) (whole-served served M x D [] 0 4096 toggle (toggle-frame .whole) rest-none ready) ∙ ap toggled up
 
-  pub shut-out-same-number : (n : ℕ) → SameNumber M x n → ⊥
-  shut-out-same-number n S = omega (arith, S [] (other (connect 0 2)), S [] (other (connect 4 2)), first-number 0, first-number 4, opening-served, opening-refused)
+    pub shut-out-nodding : (nod : Reply) → Nodding served M (M .call x (bytes 0 4096 toggle) .0) nod → ⊥
+    shut-out-nodding nod N =
+        not-nodding served M x D 0 4096 toggle toggle nod ready (toggle-frame .whole) toggle-frame
+        (rw first-done (box-steady .same-refusal (opened row) 0 (seen 1024 toggle) 0 4096 ∙ takes-bytes)) N
+        (rw first-done (λ e. true≢false (sym (changes-once row) ∙ sym (ap (λ (y : Tables × Reply). closedOne (y .0)) e) ∙ changes-twice row)))
 
-  pub shut-out-same-bytes : (bs : List ℕ) → SameBytes M x bs → ⊥
-  shut-out-same-bytes bs S =
-      let none-first : bs ≡ [] = sym (S [] (other (connect 0 2))) ∙ ap (λ (r : Reply). r .sent) (first-reply 0) ∙ opening-silent in
-      let some-next : getD bs 0 0 ≡ 1 = ap (λ (l : List ℕ). getD l 0 0) (sym (S open-first (other (collect 0 4096))) ∙ ap (λ (r : Reply). r .sent) next-reply) ∙ collection-sends in
-      omega (arith, ap (λ (l : List ℕ). getD l 0 0) none-first, some-next)
+-- at power-up, connection 0 is opened at rank 2
+pub opens-so : (row : List Pulse) (M : Machine served) (x : M .State) → Meets served M x → M .tables x ≡ poweredTables settings row
+    → (let y : M .State = M .call x (other (connect 0 2)) .0 in Meets served M y × (M .tables y ≡ opened row))
+opens-so row M x D up = (meets-on served M x D (connect 0 2), reaches served M x D (other (connect 0 2) ∷ []) ∙ rw up)
 
-module _ (M : Machine served) (x : M .State) (D : Meets served M x) (up : M .tables x ≡ opened) where
-  ready : refusalOf (M .tables x) 0 4096 ≡ none
-  ready = rw up takes-bytes
-
-  pub shut-out-waiting : Waiting served M x → ⊥
-  shut-out-waiting I = not-idle served M x D I 0 4096 ready
-
-  pub shut-out-starving : Starving served M x → ⊥
-  shut-out-starving I = not-starving served M x D I 0 4096 ready
-
-  pub shut-out-frozen : Frozen served M x → ⊥
-  shut-out-frozen I = not-frozen served M x D I 0 4096 toggle ready toggle-whole
-      (rw up (λ e. omega (arith, ap (λ (t : Tables). relayBits (t .board)) e, changes-once, not-yet)))
-
-  -- the tables after the first message
-  first-done : M .tables (M .call x (bytes 0 4096 toggle) .0) ≡ toggled opened
-  first-done = ap (λ (y : Tables × Answer served). y .0) (whole-served served M x D [] 0 4096 toggle toggle-whole rest-none ready) ∙ ap toggled up
-
-  pub shut-out-nodding : (nod : Reply) → Nodding served M (M .call x (bytes 0 4096 toggle) .0) nod → ⊥
-  shut-out-nodding nod N =
-      not-nodding served M x D 0 4096 toggle toggle nod ready toggle-whole toggle-whole (rw first-done takes-more) N
-      (rw first-done (λ e. omega (arith, ap (λ (y : Tables × Reply). relayBits (y .0 .board)) e, changes-once, changes-twice)))
-
--- the box after power-up, with connection 0 opened at rank 2
-sound-opened : Sound (after [])
-unfolding lineAt putLine onRows poweredUp putHalf connectCall connected
-sound-opened = record { four-halves = refl; four-rooms = refl }
-
-nothing-read : (n c : ℕ) → halfIn (getD (replicate n (replicate 3 0)) c []) ≡ start
-nothing-read zero c = refl
-nothing-read (suc n) zero = refl
-nothing-read (suc n) (suc c) = nothing-read n c
-
-fresh-opened : (c : ℕ) → halfAt c (after [] .halves) ≡ start
-unfolding lineAt putLine onRows poweredUp halfAt putHalf connectCall connected
-fresh-opened c = by-cases (isConnection c) (λ h. rw h (nothing-read 4 c)) (λ h. rw h)
-
-pub meets-opened : Meets served box (after [])
-meets-opened = box-meets (after []) sound-opened (λ c o. fresh-opened c)
+-- and so the box, whatever half-read messages and rooms it is lent
+pub meets-opened : (hs : Halves) (rooms : List ℕ) (row : List Pulse) → length hs ≡ 4 → length rooms ≡ 4096
+    → Meets served box (ends settings hs rooms row (other (connect 0 2) ∷ []))
+meets-opened hs rooms row four long =
+    meets-on served box (atPowerUp settings hs rooms row) (box-demand-3 settings hs rooms row four long) (connect 0 2)
 
 -- whatever a machine shows that the box does not: an answer number, a reply's bytes or length, bytes taken; or a count in its tables
 pub shut-out-inventing : (s : Settings) (hs : Halves) (rooms : List ℕ) (row : List Pulse) → length hs ≡ 4 → length rooms ≡ 4096

@@ -1,13 +1,15 @@
 -- The empty versions of 01, Register, 4, as properties of any machine that answers the box's calls.
+-- Those of the third are in demand/specs/Empty, for every message layer; the fourth, which invents something, is `shut-out-inventing`.
 use mathlib.Core.Path.{_≡_}
-use mathlib.Core.List.{List, []}
+use mathlib.Core.List.{List}
 use Prim.Native.Nat.{ℕ, _≤_}
 use Rattle.ring.specs.declared.Pulse.{Pulse}
 use Rattle.powerup.specs.declared.Settings.{Settings}
 use Rattle.powerup.specs.PowerUp.{poweredUp}
-use Rattle.demand.specs.Demand.{Said, waits, refused, did, Call, Machine, final}
-use Rattle.register.specs.Box.{Reply, refusing, Tables, tables, served, tablesOf}
-use Rattle.cases.specs.Starred.{after}
+use Rattle.demand.specs.Demand.{Said, waits, refused, did, Call, Machine, final, bytes}
+use Rattle.register.specs.Box.{Reply, refusing, Tables, tables, served, tablesOf, connect}
+use Rattle.cases.specs.Starred.{after, settings}
+use Rattle.demand.specs.Empty.{Owing}
 
 -- the reply that an answer shows; where nothing ended it is number 0 without bytes
 abbrev pub shown : Said Reply → Reply
@@ -15,21 +17,22 @@ shown waits = refusing 0
 shown (refused r) = r
 shown (did r) = r
 
--- the tables after power-up, and then with connection 0 opened at rank 2
+-- the tables after power-up with the row of pulses that the host lends, and then with connection 0 opened at rank 2
 abbrev pub poweredTables : Settings → List Pulse → Tables
 poweredTables s row = tables (poweredUp s) row
 
-abbrev pub opened : Tables
-opened = tablesOf (after [])
+abbrev pub opened : List Pulse → Tables
+opened row = served .happen (poweredTables settings row) (connect 0 2) .0
 
+-- what a machine in state x answers to a frame that it should serve
 module _ (M : Machine served) (x : M .State) where
-  -- 01, Register, 4: it refuses all: each call from here on has one of the numbers from 3 on
+  -- the version that refuses everything: each such frame has one of the numbers from 3 on
   abbrev pub RefusesAll : Type 0
-  RefusesAll = (k : Call served) → 3 ≤ shown (M .call x k .1 .said) .number
+  RefusesAll = (c room : ℕ) (m : List ℕ) → Owing served M x c room m → 3 ≤ shown (M .call x (bytes c room m) .1 .said) .number
 
-  -- 01, Register, 4: it always says the same: the same number, or the same bytes, whatever the calls are
+  -- the version that always replies the same: each such frame has the same number, or the same bytes
   abbrev pub SameNumber : ℕ → Type 0
-  SameNumber n = (before : List (Call served)) (k : Call served) → shown (M .call (final served M x before) k .1 .said) .number ≡ n
+  SameNumber n = (c room : ℕ) (m : List ℕ) → Owing served M x c room m → shown (M .call x (bytes c room m) .1 .said) .number ≡ n
 
   abbrev pub SameBytes : List ℕ → Type 0
-  SameBytes bs = (before : List (Call served)) (k : Call served) → shown (M .call (final served M x before) k .1 .said) .sent ≡ bs
+  SameBytes bs = (c room : ℕ) (m : List ℕ) → Owing served M x c room m → shown (M .call x (bytes c room m) .1 .said) .sent ≡ bs

@@ -8,7 +8,7 @@ use native.Mathlib.Omega.{arith}
 use native.Mathlib.Nat.{le-refl}
 use lib.Dec.{eqb, ltb}
 use lib.ListN.{length, set, drop, length-take, length-set}
-use borrow.Author.Tests.{le-ltb}
+use borrow.Author.Tests.{ne-eqb, le-ltb}
 use Rattle.laws.proofs.Put.{length-put}
 use Rattle.laws.proofs.Tests.{by-cases}
 use Rattle.steps.specs.Cut.{Got}
@@ -25,7 +25,8 @@ use Rattle.plain.specs.Events.{tooShort}
 use Rattle.halves.specs.Halves.{Halves, halfAt, putHalf, dropped}
 use Rattle.halves.specs.Rooms.{roomAt, putRoom}
 use Rattle.pieces.specs.Pieces.{answered, fed, fedCall, bytesCall, halvesAfter, roomsAfter}
-use Rattle.register.specs.Box.{Reply, Tables, refusalOf}
+use Rattle.register.specs.Box.{Reply, Tables, refusalOf, On, nobody, dropping, keeping, whose, halvesLeft}
+use Rattle.register.specs.Laws.{isOf}
 use Rattle.register.proofs.Cases.{bytes-cases, connect-cases, close-cases}
 use Rattle.register.proofs.Touching.{Touches, still, line-apart, message-touches}
 use Rattle.register.proofs.Halves.{half-apart, half-dropped, put-length, room-apart}
@@ -109,8 +110,25 @@ shut-is-shut c b = go (isConnection c)
 pub dropped-apart : (c d answer : ℕ) (hs : Halves) → eqb d c ≡ false → halfAt d (dropped c answer hs) ≡ halfAt d hs
 dropped-apart c d answer hs n = by-cases (eqb answer 1) (λ q. rw q (half-apart d c start hs n)) (λ q. rw q)
 
-pub dropped-length : (c answer : ℕ) (hs : Halves) → length (dropped c answer hs) ≡ length hs
+dropped-length : (c answer : ℕ) (hs : Halves) → length (dropped c answer hs) ≡ length hs
 dropped-length c answer hs = by-cases (eqb answer 1) (λ q. rw q (put-length c start hs)) (λ q. rw q)
+
+-- what an event leaves of the half-read messages: as many as there were, and that of another connection than its own
+pub left-length : (o : On) (answer : ℕ) (hs : Halves) → length (halvesLeft o answer hs) ≡ length hs
+left-length nobody answer hs = refl
+left-length (dropping c) answer hs = dropped-length c answer hs
+left-length (keeping c) answer hs = refl
+
+pub left-apart : (o : On) (d answer : ℕ) (hs : Halves) → isOf d (whose o) ≡ false → halfAt d (halvesLeft o answer hs) ≡ halfAt d hs
+left-apart nobody d answer hs n = refl
+left-apart (dropping c) d answer hs n = dropped-apart c d answer hs n
+left-apart (keeping c) d answer hs n = refl
+
+-- a refused event drops none
+pub left-refused : (o : On) (answer : ℕ) (hs : Halves) → 3 ≤ answer → halvesLeft o answer hs ≡ hs
+left-refused nobody answer hs h = refl
+left-refused (dropping c) answer hs h = rw (ne-eqb answer 1 (λ q. omega arith))
+left-refused (keeping c) answer hs h = refl
 
 module _ (c rank : ℕ) (p : Board) where
   -- another connection is as it was

@@ -6,8 +6,8 @@
 -- A reply has at most 3,437 bytes (`answered-reply`, `monitor-reply`), so that the host reads it whole out of its buffer.
 use mathlib.Core.Path.{_≡_, refl, ap}
 use mathlib.Core.Bool.{Bool, true, false, cond}
-use mathlib.Core.List.{List, [], _∷_}
-use Prim.Native.Nat.{ℕ, _+_, _≤_}
+use mathlib.Core.List.{List, []}
+use Prim.Native.Nat.{ℕ, _≤_}
 use native.Mathlib.Omega.{arith}
 use borrow.Author.Tests.{ltb-false}
 use lib.Dec.{leb}
@@ -18,10 +18,9 @@ use Rattle.steps.specs.declared.Outcome.{Outcome}
 use Rattle.steps.specs.declared.Outcome.the-variants.{Waiting, KeepAlive, Stray, Message}
 use Rattle.steps.specs.Cut.{frame, tooLong}
 use Rattle.framing.specs.Reading.{gotOf}
-use Rattle.orders.specs.Orders.{orderOf}
 use Rattle.readings.specs.Readings.{monitorReply}
 use Rattle.readings.proofs.Lengths.{length-monitor}
-use Rattle.rows.specs.Places.{Board, lineAt}
+use Rattle.rows.specs.Places.{Board}
 use Rattle.laws.proofs.Tests.{by-cases}
 use Rattle.ring.specs.declared.Pulse.{Pulse}
 use Rattle.pulses.specs.Pulses.{shortRow}
@@ -45,22 +44,12 @@ use Rattle.board.proofs.collect.Reads as collect
 use Rattle.demand.specs.Demand as calls
 use Rattle.register.specs.Box as box
 use Rattle.register.specs.Box.{reply, replyOf, held, boxCall, saying, readOf, stepOf, atPowerUp}
-use Rattle.register.proofs.Cases.{frame-cases, bytes-cases, connect-cases, close-cases, collect-cases}
+use Rattle.register.proofs.Longest.{framed-length, frame-reply}
+use Rattle.register.proofs.Cases.{bytes-cases, connect-cases, close-cases, collect-cases}
 use Rattle.register.proofs.BoxCalls.{room-short}
 
--- THE LONGEST REPLY. A frame has five bytes more than its content
-framed-length : (xs : List ℕ) → length (framed xs) ≤ length xs + 5
-framed-length [] = omega arith
-framed-length (x ∷ xs) = omega arith
-
+-- a reply is no longer than 3,437 bytes, whatever ended
 module _ (c : ℕ) (p : Board) where
-  frame-reply : (sum : ℕ) (s : List ℕ) → length s ≤ 1024 → length (servedMessage c (frame sum s) p .reply) ≤ 3437
-  unfolding servedContent
-  frame-reply sum s h =
-      frame-cases c sum s p (λ d. length (d .reply) ≤ 3437)
-      (omega (arith, framed-length (obeyed c s (orderOf s (lineAt c p .rank)) p .reply), serving.reply-short c s (orderOf s (lineAt c p .rank)) p h))
-      (omega arith)
-
   answered-reply : (room : List ℕ) (o : Outcome) → length room ≤ 1024 → length (answered c (gotOf room o) p .reply) ≤ 3437
   unfolding servedMessage
   answered-reply room (Waiting h) l = omega arith
@@ -69,7 +58,7 @@ module _ (c : ℕ) (p : Board) where
   answered-reply room (Message len sum) l = go (leb len (length room))
     where
       go : (t : Bool) → length (servedMessage c (cond t (frame sum (take len room)) tooLong) p .reply) ≤ 3437
-      go true = frame-reply sum (take len room) (omega (arith, length-take len room))
+      go true = frame-reply c p sum (take len room) (omega (arith, length-take len room))
       go false = omega arith
 
   monitor-reply : length (monitorSent c p .reply) ≤ 3437
@@ -143,6 +132,7 @@ contract-close κs a r s p rooms row =
 pub contract-collect : (κs : _) (a : _) (r : _) (s : _) → collect.Post κs a r s → (hs : Halves) (rooms : List ℕ) (row : List Pulse)
     → boxCall (held (now (a .0)) hs rooms row) (calls.other (box.collect (a .1 .0) (length (now (a .1 .1 .0)))))
     ≡ stepOf (now (s .0)) hs rooms row r (calls.did (readOf r (now (s .1 .1 .0))))
+unfolding collectCall
 contract-collect κs a r s p hs rooms row =
     let b : Board = now (a .0) in
     let o : List ℕ = now (a .1 .1 .0) in

@@ -32,10 +32,10 @@ use Rattle.demand.specs.Demand.{refused, did, Call, bytes, other, feedsTo, Answ
 use Rattle.demand.specs.Lawful as lawful-spec
 use Rattle.demand.specs.Lawful.{Lawful, outside}
 use Rattle.demand.proofs.Meeting.{demand-3}
-use Rattle.register.specs.Box.{Event, level, pass, connect, close, collect, Reply, replyOf, refusing, Tables, refusalOf, tablesAfter, served, Held, held, tablesOf, saying, boxCall, box}
+use Rattle.register.specs.Box.{Event, level, pass, connect, close, collect, Reply, replyOf, refusing, Tables, refusalOf, happens, on, tablesAfter, served, Held, held, tablesOf, saying, boxCall, box}
 use Rattle.register.proofs.Touching.{unmarked-open, level-event, pass-event, collect-touches}
 use Rattle.register.proofs.Numbers.{Answering, message-judged, judged-answers}
-use Rattle.register.proofs.BoxCalls.{row-same, ready, feeds-effect, feeds-halves, feeds-rooms, bytes-touches, bytes-halves, bytes-rooms, bytes-half-apart, bytes-room-apart, dropped-apart, dropped-length, connect-apart, connect-keeps, connect-starts, close-shuts, close-apart}
+use Rattle.register.proofs.BoxCalls.{row-same, ready, feeds-effect, feeds-halves, feeds-rooms, bytes-touches, bytes-halves, bytes-rooms, bytes-half-apart, bytes-room-apart, dropped-apart, left-length, connect-apart, connect-keeps, connect-starts, close-shuts, close-apart}
 
 -- the lengths of the box's arrays
 pub record Sound (x : Held) : Type 0 where
@@ -55,13 +55,8 @@ stay-sound x (bytes c room p) S =
       four-halves = bytes-halves c room (length (x .row)) p (x .board) (x .halves) (x .rooms) ∙ S .four-halves;
       four-rooms = bytes-rooms c room (length (x .row)) p (x .board) (x .halves) (x .rooms) ∙ S .four-rooms;
     }
-stay-sound x (other (level k v)) S = record { four-halves = S .four-halves; four-rooms = S .four-rooms }
-stay-sound x (other (pass d)) S = record { four-halves = S .four-halves; four-rooms = S .four-rooms }
-stay-sound x (other (connect c rank)) S =
-    record { four-halves = dropped-length c (connected c rank (x .board) .answer) (x .halves) ∙ S .four-halves; four-rooms = S .four-rooms }
-stay-sound x (other (close c)) S =
-    record { four-halves = dropped-length c (closed c (x .board) .answer) (x .halves) ∙ S .four-halves; four-rooms = S .four-rooms }
-stay-sound x (other (collect c room)) S = record { four-halves = S .four-halves; four-rooms = S .four-rooms }
+stay-sound x (other e) S =
+    record { four-halves = left-length (on e) (happens e (tablesOf x) .answer) (x .halves) ∙ S .four-halves; four-rooms = S .four-rooms }
 
 pub only-open : OnlyOpen served
 only-open t c room e = ready t c room e .0
@@ -116,19 +111,13 @@ module _ (x : Held) (c room : ℕ) (p : List ℕ) (S : Sound x) (e : refusalOf (
 -- an event happens to the plain machine
 does : (x : Held) (e : Event)
     → outside served box x (other e) ≡ (served .happen (tablesOf x) e .0, answer served 0 (did (served .happen (tablesOf x) e .1)))
-unfolding levelCall passCall connectCall closeCall collectCall
-does x (level k v) = refl
-does x (pass d) = refl
-does x (connect c rank) = refl
-does x (close c) = refl
-does x (collect c room) = refl
+does x e = refl
 
 -- a connection that stays open keeps what it has read
 abbrev Keeps : Held → Call served → ℕ → Type 0
 Keeps x k c = (halfAt c (after x k .halves) ≡ halfAt c (x .halves)) × (roomAt c (after x k .rooms) ≡ roomAt c (x .rooms))
 
 keeps-event : (x : Held) (e : Event) (c : ℕ) → openAt x c ≡ true → openAt (after x (other e)) c ≡ true → Keeps x (other e) c
-unfolding levelCall passCall connectCall closeCall collectCall
 keeps-event x (level k v) c u w = (refl, refl)
 keeps-event x (pass d) c u w = (refl, refl)
 keeps-event x (connect d rank) c u w = by-cases (eqb c d) same (λ n. (dropped-apart d c (connected d rank (x .board) .answer) (x .halves) n, refl))
@@ -150,7 +139,6 @@ keeps x (other e) c n u w = keeps-event x e c u w
 
 -- one that is opened begins anew; nothing but an opening opens one
 opens-event : (x : Held) (e : Event) (c : ℕ) → openAt x c ≡ false → openAt (after x (other e)) c ≡ true → halfAt c (after x (other e) .halves) ≡ start
-unfolding levelCall passCall connectCall closeCall collectCall
 opens-event x (level k v) c u w = absurd (true≢false (sym w ∙ unmarked-open (level-event k v (x .board)) c ∙ u))
 opens-event x (pass d) c u w = absurd (true≢false (sym w ∙ unmarked-open (pass-event d (x .row) (x .board)) c ∙ u))
 opens-event x (connect d rank) c u w = by-cases (eqb c d) same

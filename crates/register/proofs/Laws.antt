@@ -14,7 +14,7 @@ use native.Mathlib.Omega.{arith}
 use lib.Dec.{eqb, ltb}
 use lib.ListN.{length, set}
 use lib.Seq.{getD-set-other}
-use borrow.Author.Tests.{ne-eqb, eqb-false}
+use borrow.Author.Tests.{eqb-false}
 use Rattle.laws.specs.Times.{times}
 use Rattle.laws.specs.Put.{put}
 use Rattle.laws.proofs.Put.{put-none}
@@ -41,12 +41,12 @@ use Rattle.halves.specs.Halves.{Halves, halfAt, dropped}
 use Rattle.pieces.specs.Pieces.{answered, fed, bytesCall}
 use Rattle.board.specs.Calls.{levelCall, passCall, connectCall, closeCall, collectCall}
 use Rattle.demand.specs.Demand.{Call, bytes, other}
-use Rattle.register.specs.Box.{Event, level, pass, connect, close, collect, Tables, happens, served, beforeBytes, Held, held, tablesOf, eventCall, effectOf, halvesOf, boxCall}
-use Rattle.register.specs.Laws.{TypeSeven, ButClock, Untouched, eventOn, callOn, Kept}
+use Rattle.register.specs.Box.{Event, level, pass, connect, close, collect, Tables, happens, on, whose, served, beforeBytes, Held, held, tablesOf, effectOf, halvesOf, boxCall}
+use Rattle.register.specs.Laws.{TypeSeven, ButClock, Untouched, isOf, callOn, Kept}
 use Rattle.register.proofs.Cases.{frame-cases, bytes-cases, connect-cases, close-cases, collect-cases}
 use Rattle.register.proofs.Touching.{level-event, pass-event, collect-touches}
 use Rattle.register.proofs.Numbers.{Judged, serves, refuses, level-judged, message-judged, judged-answers}
-use Rattle.register.proofs.BoxCalls.{row-same, bytes-touches, bytes-half-apart, bytes-room-apart, dropped-apart, connect-apart, close-apart}
+use Rattle.register.proofs.BoxCalls.{row-same, bytes-touches, bytes-half-apart, bytes-room-apart, left-apart, left-refused, connect-apart, close-apart}
 
 -- CLOCK ALONE. What a content of type 7 orders: the clock, or nothing
 data ForClock : Order → Type 0 where
@@ -144,14 +144,6 @@ event-so (connect c rank) t = connect-so (t .board) c rank
 event-so (close c) t = close-so (t .board) c
 event-so (collect c room) t = collect-so (t .board) c room
 
-event-did : (e : Event) (x : Held) → eventCall e x .did ≡ happens e (tablesOf x)
-unfolding levelCall passCall connectCall closeCall collectCall
-event-did (level k v) x = refl
-event-did (pass d) x = refl
-event-did (connect c rank) x = refl
-event-did (close c) x = refl
-event-did (collect c room) x = refl
-
 bytes-so : (c room records : ℕ) (piece : List ℕ) (b : Board) (hs : Halves) (rooms : List ℕ) → RefusedSo b (bytesCall c piece room records b hs rooms .did)
 bytes-so c room records piece b hs rooms =
     bytes-cases c room records piece b hs rooms (λ e hs′ rs. RefusedSo b (e .did)) (λ h. refl) (λ h. refl)
@@ -159,7 +151,7 @@ bytes-so c room records piece b hs rooms =
 
 call-so : (x : Held) (k : Call served) → RefusedSo (x .board) (effectOf x k .did)
 call-so x (bytes c room piece) = bytes-so c room (length (x .row)) piece (x .board) (x .halves) (x .rooms)
-call-so x (other e) = rw (event-did e x) (event-so e (tablesOf x))
+call-so x (other e) = event-so e (tablesOf x)
 
 pub refused-untouched : (x : Held) (k : Call served) → 3 ≤ effectOf x k .did .answer → Untouched (x .board) (effectOf x k)
 refused-untouched x k h =
@@ -167,20 +159,11 @@ refused-untouched x k h =
     let silent : effectOf x k .did .reply ≡ [] = ap (λ (d : Did). d .reply) e in
     record { board = ap (λ (d : Did). d .board) e; silent = silent; buffer = λ o. ap (λ (vs : List ℕ). put 0 vs o) silent ∙ put-none 0 o }
 
--- REFUSED WHOLE. A refused opening or closing drops no half-read message
-not-dropped : (c answer : ℕ) (hs : Halves) → 3 ≤ answer → dropped c answer hs ≡ hs
-not-dropped c answer hs h = rw (ne-eqb answer 1 (λ q. omega arith))
-
-halves-stay : (x : Held) (e : Event) → 3 ≤ effectOf x (other e) .did .answer → halvesOf x (other e) ≡ x .halves
-unfolding levelCall passCall connectCall closeCall collectCall
-halves-stay x (level k v) h = refl
-halves-stay x (pass d) h = refl
-halves-stay x (connect c rank) h = not-dropped c (connected c rank (x .board) .answer) (x .halves) h
-halves-stay x (close c) h = not-dropped c (closed c (x .board) .answer) (x .halves) h
-halves-stay x (collect c room) h = refl
-
+-- REFUSED WHOLE. A refused event drops no half-read message either
 pub refused-event : (x : Held) (e : Event) → 3 ≤ effectOf x (other e) .did .answer → boxCall x (other e) .0 ≡ x
-refused-event x e h = λ i. held (refused-untouched x (other e) h .board i) (halves-stay x e h i) (x .rooms) (x .row)
+refused-event x e h =
+    let stay : halvesOf x (other e) ≡ x .halves = left-refused (on e) (happens e (tablesOf x) .answer) (x .halves) h in
+    λ i. held (refused-untouched x (other e) h .board i) (stay i) (x .rooms) (x .row)
 
 -- a message's number, or that nothing ended, is neither 3 nor 4
 not-refused : (p : Board) (c : ℕ) (o : Option Got) → beforeBytes (answered c o p .answer) ≡ false
@@ -206,18 +189,13 @@ others-kept x (bytes c room piece) d n =
       room = bytes-room-apart c room (length (x .row)) piece (x .board) (x .halves) (x .rooms) d n;
       line = bytes-touches c room (length (x .row)) piece (x .board) (x .halves) (x .rooms) .others d n;
     }
-others-kept x (other e) d n = record { half = half-of e n; room = refl; line = rw (event-did e x) (line-of e n) }
+others-kept x (other e) d n =
+    record { half = left-apart (on e) d (happens e (tablesOf x) .answer) (x .halves) n; room = refl; line = line-of e n }
   where
-    line-of : (e : Event) → eventOn d e ≡ false → withDue false (lineAt d (happens e (tablesOf x) .board)) ≡ withDue false (lineAt d (x .board))
+    line-of : (e : Event) → isOf d (whose (on e)) ≡ false
+        → withDue false (lineAt d (happens e (tablesOf x) .board)) ≡ withDue false (lineAt d (x .board))
     line-of (level k v) n = level-event k v (x .board) .at d
     line-of (pass m) n = pass-event m (x .row) (x .board) .at d
     line-of (connect c rank) n = ap (withDue false) (connect-apart c rank (x .board) d n)
     line-of (close c) n = ap (withDue false) (close-apart c (x .board) d n)
     line-of (collect c room) n = collect-touches c room (x .board) .others d n
-
-    half-of : (e : Event) → eventOn d e ≡ false → halfAt d (halvesOf x (other e)) ≡ halfAt d (x .halves)
-    half-of (level k v) n = refl
-    half-of (pass m) n = refl
-    half-of (connect c rank) n = dropped-apart c d (connected c rank (x .board) .answer) (x .halves) n
-    half-of (close c) n = dropped-apart c d (closed c (x .board) .answer) (x .halves) n
-    half-of (collect c room) n = refl

@@ -11,4 +11,5 @@ pub mod Laws
 pub mod Counts
 pub mod UniquePlain
 pub mod UniqueBoard
+pub mod Longest
 pub mod BoxContracts

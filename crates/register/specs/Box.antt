@@ -1,4 +1,5 @@
 -- The box as demand 3 sees it: its plain machine, and its calls. Each call is made of the definitions that the entry point's contract cites.
+-- An event is a clause in each of three lists: `Event`, `happens` and `on`.
 use mathlib.Core.Bool.{Bool, cond, _||_}
 use mathlib.Core.List.{List, []}
 use mathlib.Core.Option.{Option, none, some}
@@ -17,7 +18,7 @@ use Rattle.halves.specs.Halves.{Halves, dropped}
 use Rattle.pieces.specs.declared.Done.{Done}
 use Rattle.powerup.specs.declared.Settings.{Settings}
 use Rattle.powerup.specs.PowerUp.{poweredUp}
-use Rattle.pieces.specs.Effects.{Effect, doneOf}
+use Rattle.pieces.specs.Effects.{Effect, doneOf, still}
 use Rattle.pieces.specs.Pieces.{bytesCall, halvesAfter, roomsAfter}
 use Rattle.board.specs.Calls.{levelCall, passCall, connectCall, closeCall, collectCall}
 use Rattle.demand.specs.Plain.{Serving}
@@ -67,13 +68,31 @@ happens (connect c rank) t = connected c rank (t .board)
 happens (close c) t = closed c (t .board)
 happens (collect c room) t = collected c room (t .board)
 
--- 01, Events, 5: a collection's reply is for its connection; the other events' are for none
-abbrev pub collector : Event → Option ℕ
-collector (level k v) = none
-collector (pass d) = none
-collector (connect c rank) = none
-collector (close c) = none
-collector (collect c room) = some c
+-- the connection that an event is on, if it is on one: where it succeeds it drops what that one has half read, or keeps it
+pub data On : Type 0 where
+  nobody : On
+  dropping : ℕ → On
+  keeping : ℕ → On
+
+-- 01, Events, 3 to 5: an opening and a closing drop what is half read; a collection is for its connection and drops nothing
+abbrev pub on : Event → On
+on (level k v) = nobody
+on (pass d) = nobody
+on (connect c rank) = dropping c
+on (close c) = dropping c
+on (collect c room) = keeping c
+
+-- the connection itself
+abbrev pub whose : On → Option ℕ
+whose nobody = none
+whose (dropping c) = some c
+whose (keeping c) = some c
+
+-- 01, Events, 5, and Answer numbers, 5: the connection that the event's reply is for; an opening and a closing have no reply
+abbrev pub replyFor : On → Option ℕ
+replyFor nobody = none
+replyFor (dropping c) = none
+replyFor (keeping c) = some c
 
 -- what a message or an event leaves of the tables: only a message adds a record to the row
 abbrev pub tablesAfter : Tables → Did → Tables
@@ -95,7 +114,7 @@ served =
       refusal = refusalOf;
       serve = λ t c g. (tablesAfter t (servedMessage c g (t .board)), replyOf (servedMessage c g (t .board)));
       happen = λ t e. (boardAfter t (happens e t), replyOf (happens e t));
-      replyTo = collector;
+      replyTo = λ e. replyFor (on e);
     }
 
 -- THE BOX, as its host has it: all that the host lends, the same in every call and altered by nobody else; 02, M-100, 6: so the row of
@@ -112,14 +131,6 @@ held b hs rs row = record { board = b; halves = hs; rooms = rs; row = row }
 abbrev pub tablesOf : Held → Tables
 tablesOf x = tables (x .board) (x .row)
 
--- what each event's entry point comes to
-abbrev pub eventCall : Event → Held → Effect
-eventCall (level k v) x = levelCall k v (x .board)
-eventCall (pass d) x = passCall d (x .row) (x .board)
-eventCall (connect c rank) x = connectCall c rank (x .board)
-eventCall (close c) x = closeCall c (x .board)
-eventCall (collect c room) x = collectCall c room (x .board)
-
 -- 01, Answer numbers, lines 3 and 4: the numbers that refuse a piece before any byte
 abbrev pub beforeBytes : ℕ → Bool
 beforeBytes n = eqb n 3 || eqb n 4
@@ -128,19 +139,21 @@ beforeBytes n = eqb n 3 || eqb n 4
 abbrev pub saying : Reply → Said Reply
 saying r = cond (eqb (r .number) 0) waits (cond (beforeBytes (r .number)) (refused r) (did r))
 
--- what a call comes to, by the definition that its entry point's contract cites
+-- what a call comes to, by the definition that its entry point's contract cites; 01, Answer numbers, 6: an event takes no bytes
 abbrev pub effectOf : Held → Call served → Effect
 effectOf x (bytes c room piece) = bytesCall c piece room (length (x .row)) (x .board) (x .halves) (x .rooms)
-effectOf x (other e) = eventCall e x
+effectOf x (other e) = still (happens e (tablesOf x))
 
--- the half-read messages after it: a piece, an opening and a closing touch them
+-- the half-read messages after an event with this answer
+abbrev pub halvesLeft : On → ℕ → Halves → Halves
+halvesLeft nobody answer hs = hs
+halvesLeft (dropping c) answer hs = dropped c answer hs
+halvesLeft (keeping c) answer hs = hs
+
+-- the half-read messages after a call
 abbrev pub halvesOf : Held → Call served → Halves
 halvesOf x (bytes c room piece) = halvesAfter c piece room (length (x .row)) (x .board) (x .halves) (x .rooms)
-halvesOf x (other (level k v)) = x .halves
-halvesOf x (other (pass d)) = x .halves
-halvesOf x (other (connect c rank)) = dropped c (connected c rank (x .board) .answer) (x .halves)
-halvesOf x (other (close c)) = dropped c (closed c (x .board) .answer) (x .halves)
-halvesOf x (other (collect c room)) = x .halves
+halvesOf x (other e) = halvesLeft (on e) (happens e (tablesOf x) .answer) (x .halves)
 
 -- the rooms after it: only a piece touches them
 abbrev pub roomsOf : Held → Call served → List ℕ

@@ -2,6 +2,7 @@
 use mathlib.Core.Path.{_≡_}
 use mathlib.Core.Bool.{Bool, false}
 use mathlib.Core.List.{List, []}
+use mathlib.Core.Option.{Option, none, some}
 use Prim.Native.Nat.{ℕ, _≤_, _<_}
 use lib.Dec.{eqb}
 use lib.ListN.{getD}
@@ -14,7 +15,7 @@ use Rattle.halves.specs.Halves.{halfAt}
 use Rattle.halves.specs.Rooms.{roomAt}
 use Rattle.pieces.specs.Effects.{Effect}
 use Rattle.demand.specs.Demand.{Call, bytes, other}
-use Rattle.register.specs.Box.{Event, level, pass, connect, close, collect, Held, served}
+use Rattle.register.specs.Box.{on, whose, Held, served}
 use Rattle.marks.specs.Marks.{withDue}
 
 -- 01, Messages, 7, 1: a content of this type, whole or not
@@ -33,16 +34,13 @@ pub record Untouched (before : Board) (e : Effect) : Type 0 where
   pub buffer : (o : List ℕ) → put 0 (e .did .reply) o ≡ o
 
 -- the call is on connection d: it hands over its bytes, opens or closes it, or collects on it
-abbrev pub eventOn : ℕ → Event → Bool
-eventOn d (level k v) = false
-eventOn d (pass n) = false
-eventOn d (connect c rank) = eqb d c
-eventOn d (close c) = eqb d c
-eventOn d (collect c room) = eqb d c
+abbrev pub isOf : ℕ → Option ℕ → Bool
+isOf d none = false
+isOf d (some c) = eqb d c
 
 abbrev pub callOn : ℕ → Call served → Bool
 callOn d (bytes c room piece) = eqb d c
-callOn d (other e) = eventOn d e
+callOn d (other e) = isOf d (whose (on e))
 
 -- 01, Mistakes, 1: connection d has what it had: its half-read message, its room, and its line but for the due mark
 pub record Kept (d : ℕ) (before after : Held) : Type 0 where

@@ -1,0 +1,76 @@
+-- 01, Frame: the longest reply has 3,437 bytes.
+--     frame-reply        no reply to a content that is judged has more
+--     longest-reached    at every board, whoever may read is sent so many when he asks for an input's ID as often as a content can hold it
+use mathlib.Core.Path.{_≡_, refl}
+use mathlib.Core.List.{List, [], _∷_, map}
+use Prim.Native.Nat.{ℕ, zero, suc, _+_, _*_, _≤_}
+use native.Mathlib.Nat.{mul-suc}
+use native.Mathlib.Omega.{arith}
+use borrow.Author.Tests.{le-ltb}
+use lib.ListN.{length, length-append}
+use Rattle.laws.specs.Put.{rows}
+use Rattle.laws.specs.Chunks.{chunks}
+use Rattle.words.specs.Words.{valueOf, fits, numberAt}
+use Rattle.steps.specs.Cut.{frame}
+use Rattle.rows.specs.Places.{Board, lineAt}
+use Rattle.devices.specs.Devices.{idOf, firstWith, deviceOf}
+use Rattle.judges.specs.declared.Order.the-variants.{Read}
+use Rattle.judges.specs.Judges.{judgeRead}
+use Rattle.orders.specs.Orders.{readOf, orderOf}
+use Rattle.readings.specs.Readings.{inputBlock, blockOf, entryOf, idsIn, devicesReply}
+use Rattle.answers.specs.Calls.{framed}
+use Rattle.serving.specs.Obeying.{obeyed}
+use Rattle.serving.specs.Serving.{servedContent, servedMessage}
+use Rattle.serving.proofs.Lengths.{reply-short}
+use Rattle.register.proofs.Cases.{frame-cases}
+
+-- a frame has five bytes more than its content
+pub framed-length : (xs : List ℕ) → length (framed xs) ≤ length xs + 5
+framed-length [] = omega arith
+framed-length (x ∷ xs) = omega arith
+
+pub frame-reply : (c : ℕ) (p : Board) (sum : ℕ) (s : List ℕ) → length s ≤ 1024 → length (servedMessage c (frame sum s) p .reply) ≤ 3437
+unfolding servedContent
+frame-reply c p sum s h =
+    frame-cases c sum s p (λ d. length (d .reply) ≤ 3437)
+    (omega (arith, framed-length (obeyed c s (orderOf s (lineAt c p .rank)) p .reply), reply-short c s (orderOf s (lineAt c p .rank)) p h))
+    (omega arith)
+
+-- input 1's ID, n times
+unfoldable asked : ℕ → List ℕ
+asked zero = []
+asked (suc n) = 0 ∷ 0 ∷ 0 ∷ 0 ∷ 0 ∷ 0 ∷ 0x01 ∷ 0xFF ∷ asked n
+
+length-asked : (n : ℕ) → length (asked n) ≡ 8 * n
+unfolding asked
+length-asked zero = refl
+length-asked (suc n) = omega (arith, length-asked n, mul-suc 8 n)
+
+-- its entry has 8 + 2 + 17 bytes, and n of them follow each other
+length-entry : (p : Board) → length (entryOf p 0x01FF) ≡ 27
+unfolding idOf firstWith deviceOf inputBlock blockOf entryOf
+length-entry p = refl
+
+length-entries : (p : Board) (n : ℕ) → length (rows (entryOf p) (map valueOf (chunks 8 n (asked n)))) ≡ 27 * n
+unfolding rows chunks asked
+length-entries p zero = refl
+length-entries p (suc n) =
+    omega (arith, length-append (entryOf p 0x01FF) (rows (entryOf p) (map valueOf (chunks 8 n (asked n)))), length-entry p, length-entries p n, mul-suc 27 n)
+
+-- the frame of 127 entries: 5 bytes of header, 3 before the entries
+length-frame : (p : Board) → length (framed (devicesReply (asked 127) p)) ≡ 3437
+unfolding devicesReply idsIn
+length-frame p = rw (length-asked 127) (omega (arith, length-entries p 127))
+
+-- ReadDevices with a count of 127
+abbrev asking : List ℕ
+asking = 0x15 ∷ 0x00 ∷ 0x7F ∷ asked 127
+
+asks : (rank : ℕ) → 1 ≤ rank → orderOf asking rank ≡ Read 127
+unfolding orderOf readOf judgeRead numberAt fits
+asks rank h = rw (length-asked 127, le-ltb rank 1 h)
+
+pub longest-reached : (c : ℕ) (p : Board) → 1 ≤ lineAt c p .rank
+    → (s : List ℕ) × (length s ≡ 3 + 8 * 127) × (length (servedMessage c (frame 0xFFFF s) p .reply) ≡ 3437)
+unfolding servedMessage servedContent obeyed
+longest-reached c p h = (asking, rw (length-asked 127), rw (asks (lineAt c p .rank) h) (length-frame p))
