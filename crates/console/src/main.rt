@@ -16,6 +16,7 @@ ghost use Rattle.console.specs.Digits.{glyph as Digits·glyph};
 ghost use Rattle.console.specs.Digits.{closedBit, relayBits, shownOf};
 ghost use Rattle.console.specs.Lines.{started, startedHalves, lineCall, lineHalves, lineRooms, shown};
 ghost use Rattle.console.specs.Console.{heldOf, lineHeld, ended, step, says, run, said, atEnd, saidAtEnd};
+ghost use Rattle.console.specs.Console.{everyRead, readsLeft, Spent};
 use board::Done;
 use board::InputSettings;
 use board::Settings;
@@ -353,37 +354,58 @@ fn write_out(out: &[u8], n: usize) -> bool {
     false
 }
 
-// What a read leaves, and whether another is to follow.
-struct Turn {
-    console: Console,
-    more: bool,
+// A proved loop has to end, and nothing says that the input does: it counts its reads down, from a number that no run uses up.
+fn every_read() -> u64
+    ensures { λ r. ⌜ r ≡ everyRead ⌝ }
+{
+    u64::MAX
 }
 
-// One read, and the answers to the lines that end in it.
+// How many reads are left behind one that brought so many bytes: none where it brought none, which ends the input, or where its answers could
+// not be written.
+fn reads_left(left: u64, brought: usize, written: bool) -> u64
+    ensures { λ r. ⌜ r ≡ readsLeft left brought written ⌝ }
+{
+    if brought == 0 {
+        return 0;
+    }
+    if !written {
+        return 0;
+    }
+    if left == 0 {
+        return 0;
+    }
+    left - 1
+}
+
+// What a read leaves: the console, and how many reads may follow.
+struct Turn {
+    console: Console,
+    left: u64,
+}
+
+// One read, and the answers to the lines that end in it. A read that brings nothing has no answers.
 fn read_on(
     s: Console,
+    left: u64,
     board: &mut [[u64; 8]; ROWS],
     halves: &mut [[u64; 3]; 4],
     rooms: &mut [u8; 4096],
     line: &mut [u8; 2059],
     reply: &mut [u8; 4096],
-) -> Turn {
+) -> Turn
+    ensures { λ r. ⌜ Spent left (r .left) ⌝ }
+{
     let mut input = [0u8; 4096];
     let got = libc::read(STDIN_FILENO, &mut input);
-    if got <= 0 {
-        return Turn {
-            console: s,
-            more: false,
-        };
-    }
-    let mut out = [0u8; 20480];
     let n = io::count(got, &input);
+    let mut out = [0u8; 20480];
     let console = take_read(s, board, halves, rooms, line, reply, &input[..n], &mut out);
-    let more = write_out(&out, console.len);
-    Turn { console, more }
+    let written = write_out(&out, console.len);
+    let left = reads_left(left, n, written);
+    Turn { console, left }
 }
 
-// A proved loop has to end, and nothing says that the input does: it counts its turns down, from a number that no run uses up.
 fn read_all(
     s: Console,
     board: &mut [[u64; 8]; ROWS],
@@ -391,18 +413,19 @@ fn read_all(
     rooms: &mut [u8; 4096],
     line: &mut [u8; 2059],
     reply: &mut [u8; 4096],
-) -> Console {
-    let mut turns = u64::MAX;
+) -> Turn
+    ensures { λ r. ⌜ r .left ≡ 0 ⌝ }
+{
     let mut turn = Turn {
         console: s,
-        more: true,
+        left: every_read(),
     };
-    while turns > 0 && turn.more {
+    while 0 < turn.left {
         let console = turn.console;
-        turn = read_on(console, board, halves, rooms, line, reply);
-        turns -= 1;
+        let left = turn.left;
+        turn = read_on(console, left, board, halves, rooms, line, reply);
     }
-    turn.console
+    turn
 }
 
 fn main() {
@@ -413,7 +436,7 @@ fn main() {
     let mut reply = [0u8; 4096];
     start(&mut board, &mut halves);
     let begun = Console { used: 0, len: 0 };
-    let read = read_all(
+    let turn = read_all(
         begun,
         &mut board,
         &mut halves,
@@ -421,6 +444,7 @@ fn main() {
         &mut line,
         &mut reply,
     );
+    let read = turn.console;
     let mut out = [0u8; 5];
     let last = take_end(
         read,
