@@ -136,7 +136,8 @@ fn feed_line(
     line: &[u8],
     reply: &mut [u8; 4096],
 ) -> Done
-    ensures { λ r. ⌜ Answers (lineCall (now (line .entry)) (now (board .entry)) (now (halves .entry)) (now (rooms .entry))) (now (board .exit)) (now (reply .entry)) (now (reply .exit)) r ⌝ }
+    ensures { λ r. ⌜ Answers (lineCall (now (line .entry)) (now (board .entry)) (now (halves .entry)) (now (rooms .entry)))
+        (now (board .exit)) (now (reply .entry)) (now (reply .exit)) r ⌝ }
     ensures { λ _. ⌜ now (halves .exit) ≡ lineHalves (now (line .entry)) (now (board .entry)) (now (halves .entry)) (now (rooms .entry)) ⌝ }
     ensures { λ _. ⌜ now (rooms .exit) ≡ lineRooms (now (line .entry)) (now (board .entry)) (now (halves .entry)) (now (rooms .entry)) ⌝ }
 {
@@ -243,8 +244,11 @@ fn end_line(
     out: &mut [u8],
 ) -> Console
     requires { ⌜ s .len + 5 ≤ length (now out) ⌝ }
-    ensures { λ r. ⌜ heldOf r (now (board .exit)) (now (halves .exit)) (now (rooms .exit)) (now (line .entry)) (now (reply .exit)) ≡ ended (heldOf s (now (board .entry)) (now (halves .entry)) (now (rooms .entry)) (now (line .entry)) (now (reply .entry))) ⌝ }
-    ensures { λ r. ⌜ Wrote (s .len) (shown (lineHeld (heldOf s (now (board .entry)) (now (halves .entry)) (now (rooms .entry)) (now (line .entry)) (now (reply .entry))))) (now (out .entry)) (now (out .exit)) (r .len) ⌝ }
+    ensures { λ r. ⌜ heldOf r (now (board .exit)) (now (halves .exit)) (now (rooms .exit)) (now (line .entry)) (now (reply .exit))
+        ≡ ended (heldOf s (now (board .entry)) (now (halves .entry)) (now (rooms .entry)) (now (line .entry)) (now (reply .entry))) ⌝ }
+    ensures { λ r. ⌜ Wrote (s .len)
+        (shown (lineHeld (heldOf s (now (board .entry)) (now (halves .entry)) (now (rooms .entry)) (now (line .entry)) (now (reply .entry)))))
+        (now (out .entry)) (now (out .exit)) (r .len) ⌝ }
 {
     let d = feed_line(board, halves, rooms, so_far(line, s.used), reply);
     let text = digits(d.answer, relay_byte(board));
@@ -280,8 +284,11 @@ fn take_byte(
     byte: u8,
 ) -> Console
     requires { ⌜ s .len + 5 ≤ length (now out) ⌝ }
-    ensures { λ r. ⌜ heldOf r (now (board .exit)) (now (halves .exit)) (now (rooms .exit)) (now (line .exit)) (now (reply .exit)) ≡ step (heldOf s (now (board .entry)) (now (halves .entry)) (now (rooms .entry)) (now (line .entry)) (now (reply .entry))) byte ⌝ }
-    ensures { λ r. ⌜ Wrote (s .len) (says (heldOf s (now (board .entry)) (now (halves .entry)) (now (rooms .entry)) (now (line .entry)) (now (reply .entry))) byte) (now (out .entry)) (now (out .exit)) (r .len) ⌝ }
+    ensures { λ r. ⌜ heldOf r (now (board .exit)) (now (halves .exit)) (now (rooms .exit)) (now (line .exit)) (now (reply .exit))
+        ≡ step (heldOf s (now (board .entry)) (now (halves .entry)) (now (rooms .entry)) (now (line .entry)) (now (reply .entry))) byte ⌝ }
+    ensures { λ r. ⌜ Wrote (s .len)
+        (says (heldOf s (now (board .entry)) (now (halves .entry)) (now (rooms .entry)) (now (line .entry)) (now (reply .entry))) byte)
+        (now (out .entry)) (now (out .exit)) (r .len) ⌝ }
 {
     if byte == 10 {
         return end_line(s, board, halves, rooms, line, reply, out);
@@ -310,8 +317,13 @@ fn take_read(
     input: &[u8],
     out: &mut [u8; 20480],
 ) -> Console
-    ensures { λ r. ⌜ heldOf r (now (board .exit)) (now (halves .exit)) (now (rooms .exit)) (now (line .exit)) (now (reply .exit)) ≡ run (heldOf s (now (board .entry)) (now (halves .entry)) (now (rooms .entry)) (now (line .entry)) (now (reply .entry))) (take 4096 (now (input .entry))) ⌝ }
-    ensures { λ r. ⌜ Wrote 0 (said (heldOf s (now (board .entry)) (now (halves .entry)) (now (rooms .entry)) (now (line .entry)) (now (reply .entry))) (take 4096 (now (input .entry)))) (now (out .entry)) (now (out .exit)) (r .len) ⌝ }
+    ensures { λ r. ⌜ heldOf r (now (board .exit)) (now (halves .exit)) (now (rooms .exit)) (now (line .exit)) (now (reply .exit))
+        ≡ run (heldOf s (now (board .entry)) (now (halves .entry)) (now (rooms .entry)) (now (line .entry)) (now (reply .entry)))
+        (take 4096 (now (input .entry))) ⌝ }
+    ensures { λ r. ⌜ Wrote 0
+        (said (heldOf s (now (board .entry)) (now (halves .entry)) (now (rooms .entry)) (now (line .entry)) (now (reply .entry)))
+        (take 4096 (now (input .entry))))
+        (now (out .entry)) (now (out .exit)) (r .len) ⌝ }
 {
     let count = within(input.len());
     let mut next = s;
@@ -334,8 +346,10 @@ fn take_end(
     reply: &mut [u8; 4096],
     out: &mut [u8; 5],
 ) -> Console
-    ensures { λ r. ⌜ heldOf r (now (board .exit)) (now (halves .exit)) (now (rooms .exit)) (now (line .entry)) (now (reply .exit)) ≡ atEnd (heldOf s (now (board .entry)) (now (halves .entry)) (now (rooms .entry)) (now (line .entry)) (now (reply .entry))) ⌝ }
-    ensures { λ r. ⌜ Wrote 0 (saidAtEnd (heldOf s (now (board .entry)) (now (halves .entry)) (now (rooms .entry)) (now (line .entry)) (now (reply .entry)))) (now (out .entry)) (now (out .exit)) (r .len) ⌝ }
+    ensures { λ r. ⌜ heldOf r (now (board .exit)) (now (halves .exit)) (now (rooms .exit)) (now (line .entry)) (now (reply .exit))
+        ≡ atEnd (heldOf s (now (board .entry)) (now (halves .entry)) (now (rooms .entry)) (now (line .entry)) (now (reply .entry))) ⌝ }
+    ensures { λ r. ⌜ Wrote 0 (saidAtEnd (heldOf s (now (board .entry)) (now (halves .entry)) (now (rooms .entry)) (now (line .entry)) (now (reply .entry))))
+        (now (out .entry)) (now (out .exit)) (r .len) ⌝ }
 {
     let mut next = s;
     next.len = 0;
