@@ -220,7 +220,7 @@ def unique_faults(files, functions):
 
 def bare(text):
     """An antt text without its comments and quoted texts."""
-    return re.sub(r'(?s)\{-.*?-\}|"(?:\\.|[^"\\])*"|--(?= |-|$)[^\n]*', " ", text)
+    return re.sub(r'(?s)\{-.*?-\}|"(?:\\.|[^"\\])*"|--(?= |-|\n|$)[^\n]*', " ", text)
 
 
 def axiom_faults(files):
