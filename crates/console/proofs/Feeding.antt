@@ -21,7 +21,8 @@ use Rattle.console.specs.Lines.{offered, halvesOffered, roomsOffered, li
 use Rattle.console.proofs.Reading.{told-bytes, told-bad, parsed-length}
 
 -- the first n bytes of the store are what the line holds
-pub piece-parsed : (line store₀ store : List ℕ) (n : ℕ) (r : Parsed) → length store₀ ≡ 1029 → r ≡ told (parsed line) → store ≡ put 0 (bytesIn (parsed line)) store₀ → r ≡ Bytes n
+pub piece-parsed : (line store₀ store : List ℕ) (n : ℕ) (r : Parsed) → length store₀ ≡ 1029
+    → r ≡ told (parsed line) → store ≡ put 0 (bytesIn (parsed line)) store₀ → r ≡ Bytes n
     → (n ≤ length store) × (parsed line ≡ some (take n store))
 piece-parsed line store₀ store n r l e s q =
     let t = told-bytes (parsed line) n (sym e ∙ q) in

@@ -32,7 +32,9 @@ run-append h (x ∷ xs) ys = run-append (step h x) xs ys
 said-append : (h : Held) (xs ys : List ℕ) → said h (xs ++ ys) ≡ said h xs ++ said (run h xs) ys
 unfolding run said
 said-append h [] ys = refl
-said-append h (x ∷ xs) ys = ap (λ (l : List ℕ). says h x ++ l) (said-append (step h x) xs ys) ∙ sym (append-assoc (says h x) (said (step h x) xs) (said (run (step h x) xs) ys))
+said-append h (x ∷ xs) ys =
+    ap (λ (l : List ℕ). says h x ++ l) (said-append (step h x) xs ys)
+    ∙ sym (append-assoc (says h x) (said (step h x) xs) (said (run (step h x) xs) ys))
 
 -- pieces say what their joined bytes say
 pub pieces-joined : (h : Held) (ps : List (List ℕ)) → saidOf h ps ≡ said h (joined ps) ++ saidAtEnd (run h (joined ps))
@@ -40,7 +42,8 @@ unfolding saidOf run said
 pieces-joined h [] = refl
 pieces-joined h (p ∷ ps) =
     ap (λ (l : List ℕ). said h p ++ l) (pieces-joined (run h p) ps)
-    ∙ rw (said-append h p (joined ps), run-append h p (joined ps)) (sym (append-assoc (said h p) (said (run h p) (joined ps)) (saidAtEnd (run (run h p) (joined ps)))))
+    ∙ rw (said-append h p (joined ps), run-append h p (joined ps))
+    (sym (append-assoc (said h p) (said (run h p) (joined ps)) (saidAtEnd (run (run h p) (joined ps)))))
 
 -- ---- lines
 
@@ -85,7 +88,8 @@ reads-kept h cs b r =
     let below = ltb-true (h .used) 2059 t in
     let whole : cut cs ≡ cs = take-all 2059 cs (omega (arith, r .count)) in
     let chars′ : take (h .used + 1) (set (h .line) (h .used) b) ≡ cut (cs ++ (b ∷ [])) =
-    rw (add-one, take-suc-set (h .line) (h .used) b (omega (arith, r .size)), r .chars, whole) (sym (take-all 2059 (cs ++ (b ∷ [])) (omega (arith, r .count)))) in
+    rw (add-one, take-suc-set (h .line) (h .used) b (omega (arith, r .size)), r .chars, whole)
+    (sym (take-all 2059 (cs ++ (b ∷ [])) (omega (arith, r .count)))) in
     rw t (record { size = length-set (h .line) (h .used) b ∙ r .size; count = omega (arith, r .count); chars = chars′ }))
     (λ f.
     let full = ltb-false (h .used) 2059 f in

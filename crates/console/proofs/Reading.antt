@@ -32,7 +32,8 @@ digits-done line i h = rw (drop-of-length-le line h)
 
 -- ---- the bytes of a line
 
-pairs-step : (line : List ℕ) (i : ℕ) → 1 < length line - i → pairs (drop i line) ≡ (digitOf (getD line i 0) * 16 + digitOf (getD line (i + 1) 0)) ∷ pairs (drop (i + 2) line)
+pairs-step : (line : List ℕ) (i : ℕ) → 1 < length line - i
+    → pairs (drop i line) ≡ (digitOf (getD line i 0) * 16 + digitOf (getD line (i + 1) 0)) ∷ pairs (drop (i + 2) line)
 unfolding pairs
 pairs-step line i h =
     let e : i + 2 ≡ suc (suc i) = omega arith in

@@ -55,7 +55,9 @@ run-snoc h (x ∷ bs) b = run-snoc (step h x) bs b
 said-snoc : (h : Held) (bs : List ℕ) (b : ℕ) → said h (bs ++ (b ∷ [])) ≡ said h bs ++ says (run h bs) b
 unfolding run said
 said-snoc h [] b = append-nil (says h b)
-said-snoc h (x ∷ bs) b = ap (λ (l : List ℕ). says h x ++ l) (said-snoc (step h x) bs b) ∙ sym (append-assoc (says h x) (said (step h x) bs) (says (run (step h x) bs) b))
+said-snoc h (x ∷ bs) b =
+    ap (λ (l : List ℕ). says h x ++ l) (said-snoc (step h x) bs b)
+    ∙ sym (append-assoc (says h x) (said (step h x) bs) (says (run (step h x) bs) b))
 
 says-short : (h : Held) (b : ℕ) → length (says h b) ≤ 5
 unfolding says shown shownOf

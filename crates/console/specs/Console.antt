@@ -1,8 +1,9 @@
 -- The console byte by byte: what the code holds between reads, and what a byte of the input does to it and prints.
 -- That this prints what Lines says of the whole input, however the reads cut it, is the law `prints-every-line` in proofs/Law.
-use mathlib.Core.Bool.{cond}
+use mathlib.Core.Path.{_≡_}
+use mathlib.Core.Bool.{Bool, cond}
 use mathlib.Core.List.{List, [], _∷_, _++_}
-use Prim.Native.Nat.{ℕ, _+_}
+use Prim.Native.Nat.{ℕ, _+_, _-_}
 use lib.Dec.{eqb, ltb}
 use lib.ListN.{set, take}
 use Rattle.laws.specs.Put.{put}
@@ -71,3 +72,17 @@ saidAtEnd h = cond (eqb (h .used) 0) [] (shown (lineHeld h))
 unfoldable pub saidOf : Held → List (List ℕ) → List ℕ
 saidOf h [] = saidAtEnd h
 saidOf h (p ∷ ps) = said h p ++ saidOf (run h p) ps
+
+-- A proved loop has to end, and nothing says that the input does: this many reads are made at most. At a thousand million a second they
+-- last for over 500 years, so no run uses them up.
+abbrev pub everyRead : ℕ
+everyRead = 18446744073709551615
+
+-- the reads that are left behind one that brought so many bytes: none where it brought none, which is the end of the input, or where its
+-- answers could not be written
+unfoldable pub readsLeft : ℕ → ℕ → Bool → ℕ
+readsLeft left brought written = cond (eqb brought 0) 0 (cond written (left - 1) 0)
+
+-- what any read leaves of them: one fewer, or none
+unfoldable pub Spent : ℕ → ℕ → Type 0
+Spent left left′ = left′ ≡ cond (eqb left′ 0) 0 (left - 1)

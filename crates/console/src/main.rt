@@ -13,7 +13,7 @@ ghost use Rattle.writers.specs.Writers.{relaysOf};
 ghost use Rattle.pieces.specs.Effects.{Answers};
 ghost use Rattle.console.specs.Digits.{isDigit, digitOf, allDigits, feeds, pairs, parsed, told, bytesIn, glyph as Digits·glyph, closedBit, relayBits, shownOf};
 ghost use Rattle.console.specs.Lines.{started, startedHalves, lineCall, lineHalves, lineRooms, shown};
-ghost use Rattle.console.specs.Console.{heldOf, lineHeld, ended, step, says, run, said, atEnd, saidAtEnd};
+ghost use Rattle.console.specs.Console.{heldOf, lineHeld, ended, step, says, run, said, atEnd, saidAtEnd, everyRead, readsLeft, Spent};
 use libc::STDIN_FILENO;
 use libc::STDOUT_FILENO;
 use pieces::Done;
@@ -133,7 +133,8 @@ fn feed_line(
     line: &[u8],
     reply: &mut [u8; 4096],
 ) -> Done
-    ensures { λ r. ⌜ Answers (lineCall (now (line .entry)) (now (board .entry)) (now (halves .entry)) (now (rooms .entry))) (now (board .exit)) (now (reply .entry)) (now (reply .exit)) r ⌝ }
+    ensures { λ r. ⌜ Answers (lineCall (now (line .entry)) (now (board .entry)) (now (halves .entry)) (now (rooms .entry)))
+        (now (board .exit)) (now (reply .entry)) (now (reply .exit)) r ⌝ }
     ensures { λ _. ⌜ now (halves .exit) ≡ lineHalves (now (line .entry)) (now (board .entry)) (now (halves .entry)) (now (rooms .entry)) ⌝ }
     ensures { λ _. ⌜ now (rooms .exit) ≡ lineRooms (now (line .entry)) (now (board .entry)) (now (halves .entry)) (now (rooms .entry)) ⌝ }
 {
@@ -240,8 +241,11 @@ fn end_line(
     out: &mut [u8],
 ) -> Console
     requires { ⌜ s .len + 5 ≤ length (now out) ⌝ }
-    ensures { λ r. ⌜ heldOf r (now (board .exit)) (now (halves .exit)) (now (rooms .exit)) (now (line .entry)) (now (reply .exit)) ≡ ended (heldOf s (now (board .entry)) (now (halves .entry)) (now (rooms .entry)) (now (line .entry)) (now (reply .entry))) ⌝ }
-    ensures { λ r. ⌜ Wrote (s .len) (shown (lineHeld (heldOf s (now (board .entry)) (now (halves .entry)) (now (rooms .entry)) (now (line .entry)) (now (reply .entry))))) (now (out .entry)) (now (out .exit)) (r .len) ⌝ }
+    ensures { λ r. ⌜ heldOf r (now (board .exit)) (now (halves .exit)) (now (rooms .exit)) (now (line .entry)) (now (reply .exit))
+        ≡ ended (heldOf s (now (board .entry)) (now (halves .entry)) (now (rooms .entry)) (now (line .entry)) (now (reply .entry))) ⌝ }
+    ensures { λ r. ⌜ Wrote (s .len)
+        (shown (lineHeld (heldOf s (now (board .entry)) (now (halves .entry)) (now (rooms .entry)) (now (line .entry)) (now (reply .entry)))))
+        (now (out .entry)) (now (out .exit)) (r .len) ⌝ }
 {
     let d = feed_line(board, halves, rooms, so_far(line, s.used), reply);
     let text = digits(d.answer, relay_byte(board));
@@ -277,8 +281,11 @@ fn take_byte(
     byte: u8,
 ) -> Console
     requires { ⌜ s .len + 5 ≤ length (now out) ⌝ }
-    ensures { λ r. ⌜ heldOf r (now (board .exit)) (now (halves .exit)) (now (rooms .exit)) (now (line .exit)) (now (reply .exit)) ≡ step (heldOf s (now (board .entry)) (now (halves .entry)) (now (rooms .entry)) (now (line .entry)) (now (reply .entry))) byte ⌝ }
-    ensures { λ r. ⌜ Wrote (s .len) (says (heldOf s (now (board .entry)) (now (halves .entry)) (now (rooms .entry)) (now (line .entry)) (now (reply .entry))) byte) (now (out .entry)) (now (out .exit)) (r .len) ⌝ }
+    ensures { λ r. ⌜ heldOf r (now (board .exit)) (now (halves .exit)) (now (rooms .exit)) (now (line .exit)) (now (reply .exit))
+        ≡ step (heldOf s (now (board .entry)) (now (halves .entry)) (now (rooms .entry)) (now (line .entry)) (now (reply .entry))) byte ⌝ }
+    ensures { λ r. ⌜ Wrote (s .len)
+        (says (heldOf s (now (board .entry)) (now (halves .entry)) (now (rooms .entry)) (now (line .entry)) (now (reply .entry))) byte)
+        (now (out .entry)) (now (out .exit)) (r .len) ⌝ }
 {
     if byte == 10 {
         return end_line(s, board, halves, rooms, line, reply, out);
@@ -307,8 +314,13 @@ fn take_read(
     input: &[u8],
     out: &mut [u8; 20480],
 ) -> Console
-    ensures { λ r. ⌜ heldOf r (now (board .exit)) (now (halves .exit)) (now (rooms .exit)) (now (line .exit)) (now (reply .exit)) ≡ run (heldOf s (now (board .entry)) (now (halves .entry)) (now (rooms .entry)) (now (line .entry)) (now (reply .entry))) (take 4096 (now (input .entry))) ⌝ }
-    ensures { λ r. ⌜ Wrote 0 (said (heldOf s (now (board .entry)) (now (halves .entry)) (now (rooms .entry)) (now (line .entry)) (now (reply .entry))) (take 4096 (now (input .entry)))) (now (out .entry)) (now (out .exit)) (r .len) ⌝ }
+    ensures { λ r. ⌜ heldOf r (now (board .exit)) (now (halves .exit)) (now (rooms .exit)) (now (line .exit)) (now (reply .exit))
+        ≡ run (heldOf s (now (board .entry)) (now (halves .entry)) (now (rooms .entry)) (now (line .entry)) (now (reply .entry)))
+        (take 4096 (now (input .entry))) ⌝ }
+    ensures { λ r. ⌜ Wrote 0
+        (said (heldOf s (now (board .entry)) (now (halves .entry)) (now (rooms .entry)) (now (line .entry)) (now (reply .entry)))
+        (take 4096 (now (input .entry))))
+        (now (out .entry)) (now (out .exit)) (r .len) ⌝ }
 {
     let count = within(input.len());
     let mut next = s;
@@ -331,8 +343,10 @@ fn take_end(
     reply: &mut [u8; 4096],
     out: &mut [u8; 5],
 ) -> Console
-    ensures { λ r. ⌜ heldOf r (now (board .exit)) (now (halves .exit)) (now (rooms .exit)) (now (line .entry)) (now (reply .exit)) ≡ atEnd (heldOf s (now (board .entry)) (now (halves .entry)) (now (rooms .entry)) (now (line .entry)) (now (reply .entry))) ⌝ }
-    ensures { λ r. ⌜ Wrote 0 (saidAtEnd (heldOf s (now (board .entry)) (now (halves .entry)) (now (rooms .entry)) (now (line .entry)) (now (reply .entry)))) (now (out .entry)) (now (out .exit)) (r .len) ⌝ }
+    ensures { λ r. ⌜ heldOf r (now (board .exit)) (now (halves .exit)) (now (rooms .exit)) (now (line .entry)) (now (reply .exit))
+        ≡ atEnd (heldOf s (now (board .entry)) (now (halves .entry)) (now (rooms .entry)) (now (line .entry)) (now (reply .entry))) ⌝ }
+    ensures { λ r. ⌜ Wrote 0 (saidAtEnd (heldOf s (now (board .entry)) (now (halves .entry)) (now (rooms .entry)) (now (line .entry)) (now (reply .entry))))
+        (now (out .entry)) (now (out .exit)) (r .len) ⌝ }
 {
     let mut next = s;
     next.len = 0;
@@ -351,37 +365,58 @@ fn write_out(out: &[u8], n: usize) -> bool {
     false
 }
 
-// What a read leaves, and whether another is to follow.
-struct Turn {
-    console: Console,
-    more: bool,
+// A proved loop has to end, and nothing says that the input does: it counts its reads down, from a number that no run uses up.
+fn every_read() -> u64
+    ensures { λ r. ⌜ r ≡ everyRead ⌝ }
+{
+    u64::MAX
 }
 
-// One read, and the answers to the lines that end in it.
+// How many reads are left behind one that brought so many bytes: none where it brought none, which ends the input, or where its answers could
+// not be written.
+fn reads_left(left: u64, brought: usize, written: bool) -> u64
+    ensures { λ r. ⌜ r ≡ readsLeft left brought written ⌝ }
+{
+    if brought == 0 {
+        return 0;
+    }
+    if !written {
+        return 0;
+    }
+    if left == 0 {
+        return 0;
+    }
+    left - 1
+}
+
+// What a read leaves: the console, and how many reads may follow.
+struct Turn {
+    console: Console,
+    left: u64,
+}
+
+// One read, and the answers to the lines that end in it. A read that brings nothing has no answers.
 fn read_on(
     s: Console,
+    left: u64,
     board: &mut [[u64; 8]; ROWS],
     halves: &mut [[u64; 3]; 4],
     rooms: &mut [u8; 4096],
     line: &mut [u8; 2059],
     reply: &mut [u8; 4096],
-) -> Turn {
+) -> Turn
+    ensures { λ r. ⌜ Spent left (r .left) ⌝ }
+{
     let mut input = [0u8; 4096];
     let got = libc::read(STDIN_FILENO, &mut input);
-    if got <= 0 {
-        return Turn {
-            console: s,
-            more: false,
-        };
-    }
-    let mut out = [0u8; 20480];
     let n = io::count(got, &input);
+    let mut out = [0u8; 20480];
     let console = take_read(s, board, halves, rooms, line, reply, &input[..n], &mut out);
-    let more = write_out(&out, console.len);
-    Turn { console, more }
+    let written = write_out(&out, console.len);
+    let left = reads_left(left, n, written);
+    Turn { console, left }
 }
 
-// A proved loop has to end, and nothing says that the input does: it counts its turns down, from a number that no run uses up.
 fn read_all(
     s: Console,
     board: &mut [[u64; 8]; ROWS],
@@ -389,18 +424,19 @@ fn read_all(
     rooms: &mut [u8; 4096],
     line: &mut [u8; 2059],
     reply: &mut [u8; 4096],
-) -> Console {
-    let mut turns = u64::MAX;
+) -> Turn
+    ensures { λ r. ⌜ r .left ≡ 0 ⌝ }
+{
     let mut turn = Turn {
         console: s,
-        more: true,
+        left: every_read(),
     };
-    while turns > 0 && turn.more {
+    while 0 < turn.left {
         let console = turn.console;
-        turn = read_on(console, board, halves, rooms, line, reply);
-        turns -= 1;
+        let left = turn.left;
+        turn = read_on(console, left, board, halves, rooms, line, reply);
     }
-    turn.console
+    turn
 }
 
 fn main() {
@@ -411,7 +447,7 @@ fn main() {
     let mut reply = [0u8; 4096];
     start(&mut board, &mut halves);
     let begun = Console { used: 0, len: 0 };
-    let read = read_all(
+    let turn = read_all(
         begun,
         &mut board,
         &mut halves,
@@ -419,6 +455,7 @@ fn main() {
         &mut line,
         &mut reply,
     );
+    let read = turn.console;
     let mut out = [0u8; 5];
     let last = take_end(
         read,

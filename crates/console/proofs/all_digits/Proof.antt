@@ -25,8 +25,12 @@ all-digits-spec =
     (λ c. (omega arith, refl))
     (λ c. search needs)
     (λ c κs. search needs)
-    (λ c. sym (digits-stop _ _ (c .before .before .before .loop-test .taken) (sym (c .before .is-digit .ensures) ∙ not-true _ (c .if1 .taken))) ∙ c .before .before .before .before .loop .inv .1)
+    (λ c.
+    sym (digits-stop _ _ (c .before .before .before .loop-test .taken) (sym (c .before .is-digit .ensures) ∙ not-true _ (c .if1 .taken)))
+    ∙ c .before .before .before .before .loop .inv .1)
     (λ c. search needs)
     (λ c. search needs)
-    (λ c. (omega arith, sym (digits-turn _ _ (c .before .before .before .loop-test .taken) (sym (c .before .is-digit .ensures) ∙ not-false _ (c .if1 .left))) ∙ c .before .before .before .before .loop .inv .1))
+    (λ c.
+    let same = digits-turn _ _ (c .before .before .before .loop-test .taken) (sym (c .before .is-digit .ensures) ∙ not-false _ (c .if1 .left)) in
+    (omega arith, sym same ∙ c .before .before .before .before .loop .inv .1))
     (λ c. sym (digits-done _ _ (c .loop-test .left)) ∙ c .before .loop .inv .1))

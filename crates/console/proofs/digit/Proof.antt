@@ -15,5 +15,21 @@ digit-spec =
     (λ c. (simp (le-leb 48 _ (c .before .if1 .left), le-leb _ 57 (c .if2 .taken)), omega arith))
     (λ c. (simp (le-leb 48 _ (c .before .before .if1 .left), lt-leb _ 57 (c .before .if2 .left), lt-leb 65 _ (c .if3 .taken)), omega arith))
     (λ c. search needs)
-    (λ c. (simp (le-leb 48 _ (c .before .before .before .if1 .left), lt-leb _ 57 (c .before .before .if2 .left), le-leb 65 _ (c .before .if3 .left), le-leb _ 70 (c .if4 .taken)), omega arith))
-    (λ c. (simp (le-leb 48 _ (c .before .before .before .if1 .left), lt-leb _ 57 (c .before .before .if2 .left), le-leb 65 _ (c .before .if3 .left), lt-leb _ 70 (c .if4 .left)), omega arith)))
+    (λ c. (
+      simp (
+        le-leb 48 _ (c .before .before .before .if1 .left),
+        lt-leb _ 57 (c .before .before .if2 .left),
+        le-leb 65 _ (c .before .if3 .left),
+        le-leb _ 70 (c .if4 .taken),
+      ),
+      omega arith,
+    ))
+    (λ c. (
+      simp (
+        le-leb 48 _ (c .before .before .before .if1 .left),
+        lt-leb _ 57 (c .before .before .if2 .left),
+        le-leb 65 _ (c .before .if3 .left),
+        lt-leb _ 70 (c .if4 .left),
+      ),
+      omega arith,
+    )))

@@ -15,6 +15,14 @@ is-frame-spec =
     (tie.spec
     (λ c. simp (c .if1 .taken))
     (λ c. simp (lt-ltb 0 (length (c .before .before .before .args .line .now)) (omega arith), ne-eqb _ 0 (c .if2 .taken)))
-    (λ c. simp (lt-ltb 0 (length (c .before .before .before .before .args .line .now)) (omega arith), eq-eqb _ 0 (c .before .if2 .left), lt-leb _ 2058 (c .if3 .taken)))
+    (λ c. simp (
+      lt-ltb 0 (length (c .before .before .before .before .args .line .now)) (omega arith),
+      eq-eqb _ 0 (c .before .if2 .left),
+      lt-leb _ 2058 (c .if3 .taken),
+    ))
     (λ c κs. search needs)
-    (λ c. c .all-digits .ensures ∙ simp (lt-ltb 0 (length (c .before .before .before .before .before .args .line .now)) (omega arith), eq-eqb _ 0 (c .before .before .if2 .left), le-leb _ 2058 (c .before .if3 .left))))
+    (λ c. c .all-digits .ensures ∙ simp (
+      lt-ltb 0 (length (c .before .before .before .before .before .args .line .now)) (omega arith),
+      eq-eqb _ 0 (c .before .before .if2 .left),
+      le-leb _ 2058 (c .before .if3 .left),
+    )))

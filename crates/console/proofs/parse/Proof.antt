@@ -16,4 +16,5 @@ parse-spec =
     (λ c κs. search needs)
     (λ c. rw (parsed-none _ (sym (c .before .is-frame .ensures) ∙ not-true _ (c .if1 .taken))) (refl, sym (put-none 0 _)))
     (λ c κs. feeds-short _ (sym (c .before .before .is-frame .ensures) ∙ not-false _ (c .before .if1 .left)))
-    (λ c. rw (parsed-some _ (sym (c .before .before .before .is-frame .ensures) ∙ not-false _ (c .before .before .if1 .left))) (ap Bytes (c .unpack .ensures .place ∙ zero-add _), c .unpack .ensures .bytes)))
+    (λ c. rw (parsed-some _ (sym (c .before .before .before .is-frame .ensures) ∙ not-false _ (c .before .before .if1 .left)))
+    (ap Bytes (c .unpack .ensures .place ∙ zero-add _), c .unpack .ensures .bytes)))

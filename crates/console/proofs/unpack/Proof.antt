@@ -31,5 +31,6 @@ unpack-spec =
     (λ c. search needs)
     (λ c. search needs)
     (λ c. search needs)
-    (λ c. unpack-turn (c .before .before .before .before .before .loop .inv) (c .before .before .before .before .loop-test .taken) (rw (c .digit2 .ensures .0, c .before .before .digit .ensures .0)))
+    (λ c. unpack-turn (c .before .before .before .before .before .loop .inv) (c .before .before .before .before .loop-test .taken)
+    (rw (c .digit2 .ensures .0, c .before .before .digit .ensures .0)))
     (λ c. unpack-done (c .before .loop .inv) (c .loop-test .left)))
