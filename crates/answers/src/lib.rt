@@ -35,5 +35,8 @@ pub fn seal(s: Served, reply: &mut [u8]) -> Served
 pub fn replied(len: usize) -> Served
     ensures { λ r. ⌜ r ≡ servedOf 1 len ⌝ }
 {
-    Served { answer: 1, len }
+    Served {
+        answer: numbers::SERVED,
+        len,
+    }
 }

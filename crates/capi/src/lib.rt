@@ -12,8 +12,8 @@ ghost use Rattle.pieces.specs.Pieces.{bytesCall, halvesAfter, roomsAfter};
 ghost use Rattle.board.specs.Calls.{levelCall, passCall, passedIn, connectCall, closeCall, collectCall};
 use pieces::Done;
 use powerup::Settings;
-use ring::Pulse;
 use powerup::Settings;
+use ring::Pulse;
 use ring::Pulse;
 use rows::ROWS;
 
@@ -40,7 +40,7 @@ pub extern "C" fn wellacorn_pass(board: &mut [[u64; 8]; ROWS], row: &[Pulse], d:
 {
     let records = row.len();
     let mut answer = pulses::at_once(board, records, d);
-    if answer == 0 {
+    if answer == numbers::WAITING {
         // copied here, or the compiler would store the row for this call in front of the test
         let again = row;
         answer = wellacorn_pass_pulsed(board, again, d);

@@ -18,26 +18,20 @@ use native.Mathlib.Omega.{arith}
 use lib.ListN.{length, getD}
 use Rattle.words.specs.Words.{fits, numberAt}
 use Rattle.steps.specs.Cut.{need, whole, cuts, messages, seen}
-use Rattle.steps.specs.Steps.{start}
 use Rattle.changes.specs.Answers.{onRelay}
 use Rattle.judges.specs.Judges.{onChannel, judgeCommand, sizedRequest, judgeRequest}
 use Rattle.orders.specs.Orders.{commandOf, orderOf, requestOf}
-use Rattle.writers.specs.Writers.{relaysOf}
-use Rattle.readings.specs.Readings.{monitorReply}
-use Rattle.rows.specs.Places.{isConnection, relayAt, lineAt, putRelay, putLine, onRows, queueOf, Board}
+use Rattle.rows.specs.Places.{relayAt, lineAt, putRelay, putLine, onRows, Board}
 use Rattle.ring.specs.declared.Pulse.{Pulse}
 use Rattle.connections.specs.Lines.{openedLine, connected}
 use Rattle.marks.specs.Marks.{markedRow, marked}
-use Rattle.plain.specs.Events.{monitorSent, collected}
 use Rattle.serving.specs.Obeying.{obeyed}
 use Rattle.serving.specs.Serving.{servedContent, servedMessage}
-use Rattle.ring.specs.Ring.{rowAfter}
 use Rattle.powerup.specs.declared.Settings.{Settings}
-use Rattle.halves.specs.Halves.{Halves, halfIn, halfAt, putHalf}
+use Rattle.halves.specs.Halves.{Halves}
 use Rattle.powerup.specs.PowerUp.{poweredUp}
-use Rattle.board.specs.Calls.{connectCall}
-use Rattle.demand.specs.Demand.{Call, bytes, other, Answer, Machine, final, trace, begins, Meets}
-use Rattle.demand.proofs.Following.{answers-now, answers-after, answers-all, reaches}
+use Rattle.demand.specs.Demand.{Call, bytes, other, Answer, Machine, final, trace, Meets}
+use Rattle.demand.proofs.Following.{reaches}
 use Rattle.demand.specs.Empty.{Waiting, Frozen, Starving, Nodding, OneFrame}
 use Rattle.demand.proofs.Empty.{whole-served, not-idle, not-starving, not-frozen, not-nodding, meets-on}
 use Rattle.rows.specs.declared.Line.{Line}

@@ -24,7 +24,6 @@ use Rattle.ring.specs.Ring.{rowAfter}
 use Rattle.powerup.specs.PowerUp.{poweredUp}
 use Rattle.halves.specs.Halves.{Halves, halfAt, putHalf}
 use Rattle.pieces.specs.Pieces.{bytesCall, halvesAfter, roomsAfter}
-use Rattle.board.specs.Calls.{connectCall, closeCall}
 use Rattle.demand.specs.Demand.{Call, Answer, trace, Demand3, Said, waits, refused, did, bytes, final}
 use Rattle.register.specs.Box.{served, Held, atPowerUp, run, Reply, Tables, refusalOf, tablesOf, ends}
 use Rattle.words.specs.Words.{valueOf, fits, numberAt}

@@ -32,7 +32,6 @@ use Rattle.ring.specs.Ring.{rowAfter}
 use Rattle.powerup.specs.PowerUp.{poweredUp}
 use Rattle.halves.specs.Halves.{halfAt, putHalf}
 use Rattle.pieces.specs.Pieces.{bytesCall, halvesAfter, roomsAfter}
-use Rattle.board.specs.Calls.{levelCall, connectCall, collectCall}
 use Rattle.cases.specs.Starred.{Row, countTop, toldAgain, blockCases, channelEdges, lengthCases, writeCases, starredCases}
 
 -- every row of them does what 01 owes

@@ -1,19 +1,20 @@
 -- The empty versions of 01, Register, 4, as properties of any machine that answers the box's calls.
 -- Those of the third are in demand/specs/Empty, for every message layer; the fourth, which invents something, is `shut-out-inventing`.
+use Rattle.numbers.specs.Numbers as numbers
 use mathlib.Core.Path.{_≡_}
 use mathlib.Core.List.{List}
 use Prim.Native.Nat.{ℕ, _≤_}
 use Rattle.ring.specs.declared.Pulse.{Pulse}
 use Rattle.powerup.specs.declared.Settings.{Settings}
 use Rattle.powerup.specs.PowerUp.{poweredUp}
-use Rattle.demand.specs.Demand.{Said, waits, refused, did, Call, Machine, final, bytes}
-use Rattle.register.specs.Box.{Reply, refusing, Tables, tables, served, tablesOf, connect}
-use Rattle.cases.specs.Starred.{after, settings}
+use Rattle.demand.specs.Demand.{Said, waits, refused, did, Machine, bytes}
+use Rattle.register.specs.Box.{Reply, refusing, Tables, tables, served, connect}
+use Rattle.cases.specs.Starred.{settings}
 use Rattle.demand.specs.Empty.{Owing}
 
 -- the reply that an answer shows; where nothing ended it is number 0 without bytes
 abbrev pub shown : Said Reply → Reply
-shown waits = refusing 0
+shown waits = refusing numbers.waiting
 shown (refused r) = r
 shown (did r) = r
 

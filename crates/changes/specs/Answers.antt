@@ -1,4 +1,5 @@
 -- What a change of one input or relay answers: 01, Answer numbers, lines 1 and 11, and Events, 6.
+use Rattle.numbers.specs.Numbers as numbers
 use mathlib.Core.Path.{_≡_}
 use mathlib.Core.Bool.{Bool, Bool·beq, false, cond, not}
 use Prim.Native.Nat.{ℕ}
@@ -24,19 +25,19 @@ pub record Makes (m : Change) (b : Board) (r : Changed) : Type 0 where
 
 -- 01, Answer numbers, line 11: something is out of range
 abbrev pub noChange : Changed
-noChange = record { answer = 11; changed = false }
+noChange = record { answer = numbers.outOfRange; changed = false }
 
 -- 01, Answer numbers, line 1: served, and nothing of it really changed
 abbrev pub sameAgain : Changed
-sameAgain = record { answer = 1; changed = false }
+sameAgain = record { answer = numbers.served; changed = false }
 
 -- 01, Answer numbers, line 1: served
 abbrev pub served : Bool → Board → Change
-served changed t = record { answer = 1; changed = changed; board = t }
+served changed t = record { answer = numbers.served; changed = changed; board = t }
 
 -- 01, Answer numbers, line 11, and 6: refused, and no word of the board is another
 abbrev pub refused : Board → Change
-refused t = record { answer = 11; changed = false; board = t }
+refused t = record { answer = numbers.outOfRange; changed = false; board = t }
 
 -- 01, Events, 6: a real change: the two are not equal
 abbrev pub differ : Bool → Bool → Bool

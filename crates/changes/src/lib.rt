@@ -25,7 +25,7 @@ pub fn refuse() -> Changed
     ensures { λ r. ⌜ r ≡ noChange ⌝ }
 {
     Changed {
-        answer: 11,
+        answer: numbers::OUT_OF_RANGE,
         changed: false,
     }
 }
@@ -35,7 +35,7 @@ fn unchanged() -> Changed
     ensures { λ r. ⌜ r ≡ sameAgain ⌝ }
 {
     Changed {
-        answer: 1,
+        answer: numbers::SERVED,
         changed: false,
     }
 }
@@ -52,7 +52,7 @@ fn edit_input(board: &mut [[u64; 8]; ROWS], channel: u16, edit: InputEdit) -> Ch
     let i = edits::edited_input(was, edit);
     rows::put_input(board, k, i);
     Changed {
-        answer: 1,
+        answer: numbers::SERVED,
         changed: was.level != i.level,
     }
 }
@@ -69,7 +69,7 @@ fn edit_relay(board: &mut [[u64; 8]; ROWS], channel: u16, edit: RelayEdit) -> Ch
     let r = edits::edited_relay(was, edit);
     rows::put_relay(board, k, r);
     Changed {
-        answer: 1,
+        answer: numbers::SERVED,
         changed: was.closed != r.closed,
     }
 }
@@ -164,7 +164,10 @@ pub fn block(board: &mut [[u64; 8]; ROWS], mask: u16, state: u16) -> Changed
         let moved = mask_relay(board, k + 1, edits::bit(mask, k), edits::bit(state, k));
         changed = either(changed, moved);
     }
-    Changed { answer: 1, changed }
+    Changed {
+        answer: numbers::SERVED,
+        changed,
+    }
 }
 
 // One entry of a WriteDevices message for input k.

@@ -1,5 +1,6 @@
 -- The connections, without their half-read messages: which are open, and opening and closing one. Document 01, "What the box holds" and
 -- "Events besides bytes".
+use Rattle.numbers.specs.Numbers as numbers
 use mathlib.Core.Bool.{Bool, true, cond}
 use mathlib.Core.List.{[]}
 use Prim.Native.Nat.{ℕ}
@@ -22,11 +23,11 @@ isOpen c b = lineAt c b .isOpen
 unfoldable pub connected : ℕ → ℕ → Board → Did
 connected c rank p =
     cond (isConnection c)
-    (cond (isOpen c p) (refused 12 p)
-    (cond (ltb 2 rank) (refused 13 p)
-    (did (putLine c (openedLine rank) p) 1 [])))
-    (refused 3 p)
+    (cond (isOpen c p) (refused numbers.alreadyOpen p)
+    (cond (ltb 2 rank) (refused numbers.badRank p)
+    (did (putLine c (openedLine rank) p) numbers.served [])))
+    (refused numbers.noConnection p)
 
 -- 01, Events, 4: a closing: everything of the connection becomes 0
 unfoldable pub closed : ℕ → Board → Did
-closed c p = cond (isOpen c p) (did (putLine c shutLine p) 1 []) (refused 3 p)
+closed c p = cond (isOpen c p) (did (putLine c shutLine p) numbers.served []) (refused numbers.noConnection p)

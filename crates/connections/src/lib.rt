@@ -46,16 +46,16 @@ pub fn connect(board: &mut [[u64; 8]; ROWS], c: u8, rank: u8) -> Served
     ensures { λ r. ⌜ Gives (connected c rank (now (board .entry))) (now (board .exit)) r ⌝ }
 {
     if 4 <= c {
-        return answers::no_reply(3);
+        return answers::no_reply(numbers::NO_CONNECTION);
     }
     if is_open(board, c) {
-        return answers::no_reply(12);
+        return answers::no_reply(numbers::ALREADY_OPEN);
     }
     if 2 < rank {
-        return answers::no_reply(13);
+        return answers::no_reply(numbers::BAD_RANK);
     }
     rows::put_line(board, c as usize, opened(rank as u64));
-    answers::no_reply(1)
+    answers::no_reply(numbers::SERVED)
 }
 
 // A connection is closed.
@@ -64,7 +64,7 @@ pub fn close(board: &mut [[u64; 8]; ROWS], c: u8) -> Served
 {
     if is_open(board, c) {
         rows::put_line(board, c as usize, shut());
-        return answers::no_reply(1);
+        return answers::no_reply(numbers::SERVED);
     }
-    answers::no_reply(3)
+    answers::no_reply(numbers::NO_CONNECTION)
 }

@@ -75,7 +75,7 @@ pub fn keep_half(halves: &mut [[u64; 3]; 4], c: usize, o: Outcome)
 pub fn drop_half(halves: &mut [[u64; 3]; 4], c: u8, answer: u8)
     ensures { λ u. ⌜ now (halves .exit) ≡ dropped c answer (now (halves .entry)) ⌝ }
 {
-    if answer == 1 {
+    if answer == numbers::SERVED {
         put_half(halves, c as usize, nothing_read());
     }
 }

@@ -1,4 +1,5 @@
 -- What a piece of bytes gives back, and what it leaves of the board, the half-read messages and the rooms. Document 01, "Answer numbers".
+use Rattle.numbers.specs.Numbers as numbers
 use mathlib.Core.Path.{_≡_}
 use mathlib.Core.Bool.{true, cond, _||_}
 use mathlib.Core.List.{List}
@@ -6,7 +7,7 @@ use mathlib.Core.Option.{Option, none, some}
 use Prim.Native.Nat.{ℕ, _≤_}
 use lib.ListN.{length}
 use Rattle.steps.specs.Cut.{Got}
-use Rattle.steps.specs.Steps.{waits, halfAfter}
+use Rattle.steps.specs.Steps.{halfAfter}
 use Rattle.framing.specs.Reading.{Run, runOf, gotOf}
 use Rattle.rows.specs.Places.{Board}
 use Rattle.pulses.specs.Pulses.{shortRow}
@@ -20,7 +21,7 @@ use Rattle.pieces.specs.Effects.{Effect, effect, still}
 
 -- 01, Answer numbers, line 0: the answer to a piece: 0 where nothing ended, else that of the message that did
 abbrev pub answered : ℕ → Option Got → Board → Did
-answered c none p = refused waits p
+answered c none p = refused numbers.waiting p
 answered c (some g) p = servedMessage c g p
 
 -- 01, Frame, 10: the bytes of a piece, as far as they are taken, at connection c's half-read message and room
@@ -44,7 +45,7 @@ judged c room records b shut short open′ = cond (isOpen c b) (cond (tooShort r
 
 unfoldable pub bytesCall : ℕ → List ℕ → ℕ → ℕ → Board → Halves → List ℕ → Effect
 bytesCall c piece room records b hs rooms =
-    judged c room records b (still (refused 3 b)) (still (refused 4 b)) (fedCall c (fed c piece hs rooms) b)
+    judged c room records b (still (refused numbers.noConnection b)) (still (refused numbers.shortBuffer b)) (fedCall c (fed c piece hs rooms) b)
 
 -- the half-read messages after it
 unfoldable pub halvesAfter : ℕ → List ℕ → ℕ → ℕ → Board → Halves → List ℕ → Halves

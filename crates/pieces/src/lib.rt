@@ -13,9 +13,9 @@ ghost use Rattle.halves.specs.Halves.{putHalf};
 ghost use Rattle.halves.specs.Rooms.{roomAt, putRoom};
 ghost use Rattle.pieces.specs.Effects.{madeOf, Answers};
 ghost use Rattle.pieces.specs.Pieces.{answered, fed, fedCall, bytesCall, halvesAfter, roomsAfter, Ready};
+use answers::Served;
 use frames::Judged;
 use framing::Fed;
-use answers::Served;
 use rows::ROWS;
 use steps::Half;
 use steps::Outcome;
@@ -56,8 +56,8 @@ fn judge_message(
     let j = frames::judge(len, sum, room, false);
     match j {
         Judged::Whole => serving::serve(board, c, &room[..n], reply),
-        Judged::TooLong => answers::no_reply(6),
-        Judged::BadSum => answers::no_reply(7),
+        Judged::TooLong => answers::no_reply(numbers::TOO_LONG),
+        Judged::BadSum => answers::no_reply(numbers::BAD_CHECKSUM),
     }
 }
 
@@ -118,9 +118,9 @@ fn take_bytes(
     let o = f.outcome;
     halves::keep_half(halves, at, o);
     match o {
-        Outcome::Waiting(h) => quiet(0, f.taken),
-        Outcome::KeepAlive => quiet(2, f.taken),
-        Outcome::Stray => quiet(5, f.taken),
+        Outcome::Waiting(h) => quiet(numbers::WAITING, f.taken),
+        Outcome::KeepAlive => quiet(numbers::KEEP_ALIVE, f.taken),
+        Outcome::Stray => quiet(numbers::STRAY, f.taken),
         Outcome::Message(len, sum) => finish(judge_part(board, c, len, sum, rooms, reply), f.taken),
     }
 }
@@ -140,13 +140,13 @@ pub fn give_bytes(
     ensures { λ r. ⌜ now (rooms .exit) ≡ roomsAfter c (now (piece .entry)) (length (now (reply .entry))) records (now (board .entry)) (now (halves .entry)) (now (rooms .entry)) ⌝ }
 {
     if !connections::is_open(board, c) {
-        return finish(answers::no_reply(3), 0);
+        return finish(answers::no_reply(numbers::NO_CONNECTION), 0);
     }
     if reply.len() < 4096 {
-        return finish(answers::no_reply(4), 0);
+        return finish(answers::no_reply(numbers::SHORT_BUFFER), 0);
     }
     if records < 31 {
-        return finish(answers::no_reply(4), 0);
+        return finish(answers::no_reply(numbers::SHORT_BUFFER), 0);
     }
     take_bytes(board, halves, rooms, c, piece, reply)
 }

@@ -1,4 +1,5 @@
 -- A call of time, from end to end of the pulses: how far it has come. Document 02, M-100.
+use Rattle.numbers.specs.Numbers as numbers
 use mathlib.Core.Path.{_≡_}
 use mathlib.Core.Bool.{true, false, cond}
 use Prim.Native.Nat.{ℕ, _-_, min}
@@ -24,15 +25,15 @@ over n = record { rest = 0; first = 0; next = 0; answer = n; ends = false }
 
 -- the running pulse ends within the d ms that are left: its place in the row, and that of the next
 abbrev pub until : ℕ → Queue → Time
-until d q = record { rest = d; first = place q 0; next = place q 1; answer = 1; ends = true }
+until d q = record { rest = d; first = place q 0; next = place q 1; answer = numbers.served; ends = true }
 
 -- d ms more: they pass at once where no pulse ends within them
 unfoldable pub onward : ℕ → Board → Going
-onward d b = cond (endsWithin d (queueOf b)) (going b (until d (queueOf b))) (going (waited d b) (over 1))
+onward d b = cond (endsWithin d (queueOf b)) (going b (until d (queueOf b))) (going (waited d b) (over numbers.served))
 
 -- 02, M-100, 5: 4 where the row is too short
 unfoldable pub startOf : ℕ → ℕ → Board → Going
-startOf records d b = cond (shortRow records) (going b (over 4)) (onward d b)
+startOf records d b = cond (shortRow records) (going b (over numbers.shortBuffer)) (onward d b)
 
 -- up to the running pulse's end, which is p's, and on from there; of ms that are not left none pass
 unfoldable pub turnOf : Pulse → Pulse → Time → Board → Going

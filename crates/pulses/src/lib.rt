@@ -6,6 +6,7 @@ ghost use mathlib.Core.Path.{_≡_};
 ghost use mathlib.Core.Bool.{cond};
 ghost use Prim.Native.Nat.{_+_, _-_, _<_, _^_, min};
 ghost use lib.Dec.{eqb};
+ghost use Rattle.numbers.specs.Numbers.{waiting, served, shortBuffer, queueFull};
 ghost use Rattle.rows.specs.Places.{relayAt, queueOf, leftSet};
 ghost use Rattle.ring.specs.Ring.{isFull, runs};
 ghost use Rattle.pulses.specs.Pulses.{shortRow, statesOf, switched, begun, ended, followed, lasts, endsWithin, waited, accepted};
@@ -29,17 +30,17 @@ pub struct Time {
 // A pulse is asked for: 14 where 31 stand. Where no other runs it begins here.
 pub fn push(board: &mut [[u64; 8]; ROWS], p: Pulse) -> u8
     ensures { λ r. ⌜ now (board .exit) ≡ cond (isFull (queueOf (now (board .entry)))) (now (board .entry)) (accepted p (now (board .entry))) ⌝ }
-    ensures { λ r. ⌜ r ≡ cond (isFull (queueOf (now (board .entry)))) 14 1 ⌝ }
+    ensures { λ r. ⌜ r ≡ cond (isFull (queueOf (now (board .entry)))) queueFull served ⌝ }
 {
     let q = rows::queue_of(board);
     if 31 <= q.standing {
-        return 14;
+        return numbers::QUEUE_FULL;
     }
     rows::put_queue(board, ring::join(q, p));
     if q.standing == 0 {
         begin(board, p);
     }
-    1
+    numbers::SERVED
 }
 
 // ---- a beginning and an end
@@ -182,29 +183,29 @@ fn go_on(board: &mut [[u64; 8]; ROWS], d: u32) -> Time
             rest: d,
             first: ring::place_in(q, 0),
             next: ring::place_in(q, 1),
-            answer: 1,
+            answer: numbers::SERVED,
             ends: true,
         };
     }
     wait(board, d);
-    no_more(1)
+    no_more(numbers::SERVED)
 }
 
 // A call of time in which no pulse ends: all d ms pass at once (1), or none with a row that is too short (4). Where one ends nothing is done (0).
 pub fn at_once(board: &mut [[u64; 8]; ROWS], records: usize, d: u32) -> u8
-    ensures { λ r. ⌜ now (board .exit) ≡ cond (eqb r 1) (waited d (now (board .entry))) (now (board .entry)) ⌝ }
-    ensures { λ r. ⌜ r ≡ cond (shortRow records) 4 (cond (endsWithin d (queueOf (now (board .entry)))) 0 1) ⌝ }
+    ensures { λ r. ⌜ now (board .exit) ≡ cond (eqb r served) (waited d (now (board .entry))) (now (board .entry)) ⌝ }
+    ensures { λ r. ⌜ r ≡ cond (shortRow records) shortBuffer (cond (endsWithin d (queueOf (now (board .entry)))) waiting served) ⌝ }
 {
     if records < 31 {
-        return 4;
+        return numbers::SHORT_BUFFER;
     }
     let q = rows::queue_of(board);
     if ends_within(q, d) {
-        return 0;
+        return numbers::WAITING;
     }
     tables::pass(board, d);
     run_down(board, q, d);
-    1
+    numbers::SERVED
 }
 
 // A call of time begins, whether a pulse ends in it or not: d ms, with a row of so many records.
@@ -212,7 +213,7 @@ pub fn time_of(board: &mut [[u64; 8]; ROWS], records: usize, d: u32) -> Time
     ensures { λ r. ⌜ Goes (startOf records d (now (board .entry))) (now (board .exit)) r ⌝ }
 {
     if records < 31 {
-        return no_more(4);
+        return no_more(numbers::SHORT_BUFFER);
     }
     go_on(board, d)
 }

@@ -27,9 +27,8 @@ use Rattle.pulses.specs.Pulses.{shortRow}
 use Rattle.ring.specs.Ring.{rowAfter}
 use Rattle.plain.specs.Events.{leveled, timePassed, monitorSent}
 use Rattle.connections.specs.Lines.{connected, closed}
-use Rattle.answers.specs.Calls.{Did, framed}
-use Rattle.serving.specs.Obeying.{obeyed}
-use Rattle.serving.specs.Serving.{servedContent, servedMessage}
+use Rattle.answers.specs.Calls.{Did}
+use Rattle.serving.specs.Serving.{servedMessage}
 use Rattle.serving.proofs.Lengths as serving
 use Rattle.halves.specs.Halves.{Halves}
 use Rattle.pieces.specs.declared.Done.{Done}

@@ -24,7 +24,6 @@ use Rattle.connections.proofs.Lines.{open-below}
 use Rattle.halves.specs.Halves.{halfAt}
 use Rattle.halves.specs.Rooms.{roomAt}
 use Rattle.pieces.specs.Pieces.{answered, fed, bytesCall, halvesAfter, roomsAfter}
-use Rattle.board.specs.Calls.{levelCall, passCall, connectCall, closeCall, collectCall}
 use Rattle.pieces.proofs.Keeping as keeping
 use Rattle.halves.proofs.Rooms.{room-long, room-again}
 use Rattle.demand.specs.Plain.{OnlyOpen}

@@ -37,9 +37,9 @@ use Rattle.connections.specs.Lines.{connected, closed}
 use Rattle.answers.specs.Calls.{Did, did, refused}
 use Rattle.serving.specs.Obeying.{clockTold, obeyed}
 use Rattle.serving.specs.Serving.{servedContent, servedMessage}
-use Rattle.halves.specs.Halves.{Halves, halfAt, dropped}
+use Rattle.halves.specs.Halves.{Halves}
 use Rattle.pieces.specs.Pieces.{answered, fed, bytesCall}
-use Rattle.board.specs.Calls.{levelCall, passCall, connectCall, closeCall, collectCall}
+use Rattle.board.specs.Calls.{passCall}
 use Rattle.demand.specs.Demand.{Call, bytes, other}
 use Rattle.register.specs.Box.{Event, level, pass, connect, close, collect, Tables, happens, on, whose, served, beforeBytes, Held, held, tablesOf, effectOf, halvesOf, boxCall}
 use Rattle.register.specs.Laws.{TypeSeven, ButClock, Untouched, isOf, callOn, Kept}

@@ -1,5 +1,6 @@
 -- The box as demand 3 sees it: its plain machine, and its calls. Each call is made of the definitions that the entry point's contract cites.
 -- An event is a clause in each of three lists: `Event`, `happens` and `on`.
+use Rattle.numbers.specs.Numbers as numbers
 use mathlib.Core.Bool.{Bool, cond, _||_}
 use mathlib.Core.List.{List, []}
 use mathlib.Core.Option.{Option, none, some}
@@ -20,7 +21,6 @@ use Rattle.powerup.specs.declared.Settings.{Settings}
 use Rattle.powerup.specs.PowerUp.{poweredUp}
 use Rattle.pieces.specs.Effects.{Effect, doneOf, still}
 use Rattle.pieces.specs.Pieces.{bytesCall, halvesAfter, roomsAfter}
-use Rattle.board.specs.Calls.{levelCall, passCall, connectCall, closeCall, collectCall}
 use Rattle.demand.specs.Plain.{Serving}
 use Rattle.demand.specs.Demand.{Said, waits, refused, did, Call, bytes, other, Answer, answer, Machine, Trace, View, final, trace, begins}
 
@@ -58,7 +58,7 @@ tables b row = record { board = b; row = row }
 -- 01, Answer numbers, lines 3 and 4: what refuses a piece, room the reply buffer's length; 02, M-100, 5: 4 also for a row under 31
 abbrev pub refusalOf : Tables → ℕ → ℕ → Option Reply
 refusalOf t c room =
-    cond (isOpen c (t .board)) (cond (tooShort room || shortRow (length (t .row))) (some (refusing 4)) none) (some (refusing 3))
+    cond (isOpen c (t .board)) (cond (tooShort room || shortRow (length (t .row))) (some (refusing numbers.shortBuffer)) none) (some (refusing numbers.noConnection))
 
 -- what each event does to the plain machine; 02, M-100, 6: the end of a pulse belongs to the time event in which it falls
 abbrev pub happens : Event → Tables → Did
@@ -133,11 +133,11 @@ tablesOf x = tables (x .board) (x .row)
 
 -- 01, Answer numbers, lines 3 and 4: the numbers that refuse a piece before any byte
 abbrev pub beforeBytes : ℕ → Bool
-beforeBytes n = eqb n 3 || eqb n 4
+beforeBytes n = eqb n numbers.noConnection || eqb n numbers.shortBuffer
 
 -- 01, Answer numbers, line 0: what the answer to a piece says: with 0 nothing ended; 3 and 4 refuse the call; every other number answers a message
 abbrev pub saying : Reply → Said Reply
-saying r = cond (eqb (r .number) 0) waits (cond (beforeBytes (r .number)) (refused r) (did r))
+saying r = cond (eqb (r .number) numbers.waiting) waits (cond (beforeBytes (r .number)) (refused r) (did r))
 
 -- what a call comes to, by the definition that its entry point's contract cites; 01, Answer numbers, 6: an event takes no bytes
 abbrev pub effectOf : Held → Call served → Effect

@@ -1,4 +1,5 @@
 -- One byte of a message: what the code promises, for every half-read message, nonsense included. Document 01, "Frame".
+use Rattle.numbers.specs.Numbers as numbers
 use mathlib.Core.Bool.{cond}
 use mathlib.Core.List.{List}
 use mathlib.Core.Option.{Option, none, some}
@@ -35,15 +36,11 @@ stepOf h b =
     (cond (eqb (h .got) 4) (afterOf 4 (h .len) (h .sum / 256 * 256 + b % 256))
     (afterOf (h .got) (h .len) (h .sum))))))
 
--- 01, Answer numbers, 0: nothing ended
-abbrev pub waits : ℕ
-waits = 0
-
--- 01, Answer numbers, 0, 2, 5: what bytes came to, by its number; a message that has ended has none of its own: it is judged
+-- 01, Answer numbers, lines 0, 2 and 5: what bytes came to, by its number; a message that has ended has none of its own: it is judged
 abbrev pub numberOf : Outcome → Option ℕ
-numberOf (Waiting h) = some waits
-numberOf KeepAlive = some 2
-numberOf Stray = some 5
+numberOf (Waiting h) = some numbers.waiting
+numberOf KeepAlive = some numbers.keepAlive
+numberOf Stray = some numbers.stray
 numberOf (Message len sum) = none
 
 -- 01, Answer numbers, Left: how far the next message has been read

@@ -1,5 +1,4 @@
 -- `console::read_all`: the measure is the number of reads that are left, and it stops where none is.
-use mathlib.Core.Path.{_≡_}
 use Prim.Native.Nat.{ℕ, _<_}
 use native.Mathlib.Omega.{arith}
 use borrow.Author.Needs.{needs}

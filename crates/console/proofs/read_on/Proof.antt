@@ -1,5 +1,5 @@
 -- `console::read_on`: whatever the read brings, one of the reads is spent, or none is left.
-use mathlib.Core.Path.{refl, sym, _∙_}
+use mathlib.Core.Path.{sym, _∙_}
 use mathlib.Core.Bool.{Bool, true, false}
 use Prim.Native.Nat.{ℕ, _-_}
 use borrow.Author.Needs.{needs}
