@@ -92,7 +92,8 @@ quietly c ρ b {x = x} {o = o} e is number g =
 
 -- bytes that ended one: what its message came to
 pub ended-by : (c : ℕ) (ρ : Run) (b : Board) {f : Fed} {len sum : ℕ} {b′ : Board} {s : Served} {o o′ : List ℕ} {r : Done} → f ≡ ρ .fed
-    → f .outcome ≡ Message len sum → Does (answered c (gotOf (ρ .room) (Message len sum)) b) b′ o o′ s → r ≡ madeOf s (f .taken) → Answers (fedCall c ρ b) b′ o o′ r
+    → f .outcome ≡ Message len sum → Does (answered c (gotOf (ρ .room) (Message len sum)) b) b′ o o′ s → r ≡ madeOf s (f .taken)
+    → Answers (fedCall c ρ b) b′ o o′ r
 ended-by c ρ b {len = len} {sum = sum} e is w g =
     let so : ρ .fed .outcome ≡ Message len sum = rw (← e) is in
     record { board = rw so (w .board); gives = g ∙ rw (so, w .gives, e); leaves = rw so (w .leaves) }

@@ -81,7 +81,8 @@ cuts-again : (m n : ℕ) (bs : List ℕ) → length bs ≤ suc m → length bs �
 unfolding cuts
 cuts-again m n bs p q ih false e = cuts-none (suc m) bs e ∙ sym (cuts-none (suc n) bs e)
 cuts-again m n bs p q ih true e =
-    rw (e, ih (drop (need bs) bs) (omega (arith, need-pos bs, whole-need bs e, length-drop (need bs) bs)) (omega (arith, need-pos bs, whole-need bs e, length-drop (need bs) bs)))
+    let shorter : length (drop (need bs) bs) + 1 ≤ length bs = omega (arith, need-pos bs, whole-need bs e, length-drop (need bs) bs) in
+    rw (e, ih (drop (need bs) bs) (omega arith) (omega arith))
 
 no-length : (bs : List ℕ) → length bs ≤ 0 → whole bs ≡ false
 no-length [] p = no-bytes
@@ -125,7 +126,8 @@ inc-append r [] ys = refl
 inc-append r (b ∷ xs) ys = go (whole (more r b)) (inc-append [] xs ys) (inc-append (more r b) xs ys)
   where
     go : (t : Bool) → inc [] (xs ++ ys) ≡ inc [] xs ++ inc (left [] xs) ys → inc (more r b) (xs ++ ys) ≡ inc (more r b) xs ++ inc (left (more r b) xs) ys
-        → cond t (more r b ∷ inc [] (xs ++ ys)) (inc (more r b) (xs ++ ys)) ≡ cond t (more r b ∷ inc [] xs) (inc (more r b) xs) ++ inc (cond t (left [] xs) (left (more r b) xs)) ys
+        → cond t (more r b ∷ inc [] (xs ++ ys)) (inc (more r b) (xs ++ ys))
+        ≡ cond t (more r b ∷ inc [] xs) (inc (more r b) xs) ++ inc (cond t (left [] xs) (left (more r b) xs)) ys
     go true f g = ap (λ (x : List (List ℕ)). more r b ∷ x) f
     go false f g = g
 

@@ -7,6 +7,24 @@ use Rattle.framing.proofs.Turns.{turn-part}
 use Rattle.framing.proofs.content.Statement.{statement}
 use Rattle.framing.proofs.content.Tie as tie
 
+-- the message waits on
+returns : tie.Need-returns
+returns c =
+    let p = c .before .before .before in
+    let n = p .before .before .before .fewer .result in
+    let a = p .before .before .before .before .before .before .args in
+    turn-part (a .i) n (a .got) (a .len) (a .sum) (a .room .now) _ (a .piece .now) _ (omega arith) (omega arith) (omega arith) (omega arith)
+    (p .keep-part .ensures) (rw (lt-ltb (a .got + n) (5 + a .len) (omega arith)))
+
+-- its last byte is among them
+returns-2 : tie.Need-returns-2
+returns-2 c =
+    let p = c .before .before .before in
+    let n = p .before .before .before .fewer .result in
+    let a = p .before .before .before .before .before .before .args in
+    turn-part (a .i) n (a .got) (a .len) (a .sum) (a .room .now) _ (a .piece .now) _ (omega arith) (omega arith) (omega arith) (omega arith)
+    (p .keep-part .ensures) (rw (le-ltb (a .got + n) (5 + a .len) (omega arith)))
+
 pub content-spec : {M : Type 1} → statement M
 content-spec =
     tie.close
@@ -24,12 +42,6 @@ content-spec =
     (λ c. search needs)
     (λ c. search needs)
     (λ c. search needs)
-    (λ c. let a = c .before .before .before .before .before .before .before .before .before .args in
-    let n = c .before .before .before .before .before .before .fewer .result in
-    turn-part (a .i) n (a .got) (a .len) (a .sum) (a .room .now) _ (a .piece .now) _ (omega arith) (omega arith) (omega arith) (omega arith)
-    (c .before .before .before .keep-part .ensures) (rw (lt-ltb (a .got + n) (5 + a .len) (omega arith))))
+    returns
     (λ c. search needs)
-    (λ c. let a = c .before .before .before .before .before .before .before .before .before .args in
-    let n = c .before .before .before .before .before .before .fewer .result in
-    turn-part (a .i) n (a .got) (a .len) (a .sum) (a .room .now) _ (a .piece .now) _ (omega arith) (omega arith) (omega arith) (omega arith)
-    (c .before .before .before .keep-part .ensures) (rw (le-ltb (a .got + n) (5 + a .len) (omega arith)))))
+    returns-2)
