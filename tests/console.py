@@ -14,6 +14,7 @@ import re
 import struct
 import subprocess
 import sys
+import tempfile
 import termios
 import time
 
@@ -41,26 +42,28 @@ def run(text):
 
 def run_from_file(text):
     """The same from a file, of which every read but the last is full."""
-    with open("target/console.input", "w+b") as file:
+    with tempfile.TemporaryFile() as file:
         file.write(text)
         file.seek(0)
         done = subprocess.run(COMMAND, stdin=file, stdout=subprocess.PIPE, timeout=LIMIT)
-    os.unlink("target/console.input")
     return ended(done.returncode, done.stdout)
 
 
 def run_byte_by_byte(text):
     """The same with each byte a read of its own: the next is written when the pipe is empty again."""
-    program = subprocess.Popen(COMMAND, stdin=subprocess.PIPE, stdout=subprocess.PIPE, bufsize=0)
     until = time.monotonic() + LIMIT
-    try:
-        for k in range(len(text)):
-            program.stdin.write(text[k:k + 1])
-            while waiting(program.stdin) and program.poll() is None and time.monotonic() < until:
-                time.sleep(0.0002)
-    except BrokenPipeError:
-        pass    # it has ended: what it printed says so
-    printed, _ = program.communicate(timeout=LIMIT)
+    with subprocess.Popen(COMMAND, stdin=subprocess.PIPE, stdout=subprocess.PIPE, bufsize=0) as program:
+        try:
+            for k in range(len(text)):
+                program.stdin.write(text[k:k + 1])
+                while waiting(program.stdin) and program.poll() is None and time.monotonic() < until:
+                    time.sleep(0.0002)
+        except BrokenPipeError:
+            pass    # it has ended: what it printed says so
+        try:
+            printed, _ = program.communicate(timeout=LIMIT)
+        finally:
+            program.kill()
     return ended(program.returncode, printed)
 
 
