@@ -5,15 +5,15 @@ use Prim.Native.Nat.{ℕ, _≤_}
 use Rattle.judges.specs.declared.Order.{Order}
 use Rattle.judges.specs.declared.Order.the-variants.{Close, Open, Toggle, ClearCount, ClearInputUsage, ClearRelayUsage, PulseRelay, PulseBlock}
 
--- 01, Answer numbers, 8 to 11: the numbers that a content is refused with
+-- 01, Answer numbers, lines 8 to 11: the numbers that a content is refused with
 abbrev pub Refusal : ℕ → Type 0
 Refusal n = (n ≡ 8) ⊎ ((n ≡ 9) ⊎ ((n ≡ 10) ⊎ (n ≡ 11)))
 
--- 01, Answer numbers, 11: a number in its range, from low to high
+-- 01, Answer numbers, line 11: a number in its range, from low to high
 abbrev pub Within : ℕ → ℕ → ℕ → Type 0
 Within low high n = (low ≤ n) × (n ≤ high)
 
--- 01, Messages offered, 10, and 02, M-100, 1: the channel of an order that has one
+-- 01, Messages, 10, 2, and 02, M-100, 1: the channel of an order that has one
 pub data ChannelOf : Order → ℕ → Type 0 where
   close : {k : ℕ} → ChannelOf (Close k) k
   opening : {k : ℕ} → ChannelOf (Open k) k

@@ -8,7 +8,7 @@ use Rattle.edits.specs.Edits.{relayFails}
 use Rattle.orders.specs.declared.Entry.{Entry}
 use Rattle.writes.specs.Writes.{inputSizeFits, relaySizeFits}
 
--- 01, Messages offered, 23, what fails alone: an unknown ID, a wrong length of the block, an unknown flag (an input has 1, 2 and 4), or a relay's
+-- 01, Messages, 23, 3, what fails alone: an unknown ID, a wrong length of the block, an unknown flag (an input has 1, 2 and 4), or a relay's
 -- state above 1
 abbrev pub deviceFails : Device → Entry → Bool
 deviceFails (Din k) e = not (inputSizeFits (e .size) (e .flags)) || ltb 7 (e .flags)
