@@ -73,12 +73,12 @@ unfoldable pub saidOf : Held → List (List ℕ) → List ℕ
 saidOf h [] = saidAtEnd h
 saidOf h (p ∷ ps) = said h p ++ saidOf (run h p) ps
 
--- A proved loop has to end, and nothing says that the input does: this many reads are made at most. At a thousand million a second they
--- last for over 500 years, so no run uses them up.
+-- 01, the console program, 1: standard input is read, to its end. A proved loop has to end too, and nothing says that the input does: this many
+-- reads are made at most. At a thousand million a second they last for over 500 years, so that no run uses them up.
 abbrev pub everyRead : ℕ
 everyRead = 18446744073709551615
 
--- the reads that are left behind one that brought so many bytes: none where it brought none, which is the end of the input, or where its
+-- the reads that are left behind one that brought so many bytes: none where it brought none, for that is the end of the input, or where its
 -- answers could not be written
 unfoldable pub readsLeft : ℕ → ℕ → Bool → ℕ
 readsLeft left brought written = cond (eqb brought 0) 0 (cond written (left - 1) 0)
