@@ -26,33 +26,33 @@ left r (b ∷ bs) = cond (whole (more r b)) (left [] bs) (left (more r b) bs)
 
 pub need-pos : (bs : List ℕ) → 1 ≤ need bs
 unfolding need
-need-pos bs = go (eqb (getD bs 0 0) 1) (two bs 1)
+need-pos bs = go (eqb (getD bs 0 0) 1) (omega arith)
   where
-    go : (t : Bool) (u : ℕ) → 1 ≤ cond t (5 + u) 1
-    go true u = omega arith
-    go false u = le-refl 1
+    go : (t : Bool) {u : ℕ} → 1 ≤ u → 1 ≤ cond t u 1
+    go true h = h
+    go false h = le-refl 1
 
-grows : (t : Bool) (u v : ℕ) → u ≤ v → cond t (5 + u) 1 ≤ cond t (5 + v) 1
-grows true u v h = omega arith
-grows false u v h = le-refl 1
+grows : (t : Bool) {u v : ℕ} → u ≤ v → cond t u 1 ≤ cond t v 1
+grows true h = h
+grows false h = le-refl 1
 
 pub need-grows : (r x : List ℕ) → need r ≤ need (r ++ x)
 unfolding need
 need-grows [] x = need-pos x
-need-grows (a ∷ []) x = grows (eqb a 1) (0 * 256 + 0) (two (a ∷ x) 1) (omega arith)
-need-grows (a ∷ b ∷ []) x = grows (eqb a 1) (b % 256 * 256 + 0) (b % 256 * 256 + getD x 0 0 % 256) (omega arith)
+need-grows (a ∷ []) x = grows (eqb a 1) (omega arith)
+need-grows (a ∷ b ∷ []) x = grows (eqb a 1) (omega arith)
 need-grows (a ∷ b ∷ c ∷ l) x = le-refl (need (a ∷ b ∷ c ∷ l))
 
-short : (t : Bool) (u v n : ℕ) → leb (cond t (5 + u) 1) n ≡ true → n < 5 → cond t (5 + v) 1 ≡ cond t (5 + u) 1
-short true u v n h q = absurd (omega (arith, leb-true (5 + u) n h))
+short : (t : Bool) (u v n : ℕ) → leb (cond t u 1) n ≡ true → n < u → cond t v 1 ≡ cond t u 1
+short true u v n h q = absurd (omega (arith, leb-true u n h))
 short false u v n h q = refl
 
 -- a whole message's length is settled
 pub need-settled : (r x : List ℕ) → whole r ≡ true → need (r ++ x) ≡ need r
 unfolding need whole
 need-settled [] x h = absurd (false≢true h)
-need-settled (a ∷ []) x h = short (eqb a 1) (0 * 256 + 0) (two (a ∷ x) 1) 1 h (omega arith)
-need-settled (a ∷ b ∷ []) x h = short (eqb a 1) (b % 256 * 256 + 0) (b % 256 * 256 + getD x 0 0 % 256) 2 h (omega arith)
+need-settled (a ∷ []) x h = short (eqb a 1) _ _ 1 h (omega arith)
+need-settled (a ∷ b ∷ []) x h = short (eqb a 1) _ _ 2 h (omega arith)
 need-settled (a ∷ b ∷ c ∷ l) x h = refl
 
 cuts-none : (n : ℕ) (bs : List ℕ) → whole bs ≡ false → cuts n bs ≡ []

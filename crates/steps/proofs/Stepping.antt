@@ -27,15 +27,15 @@ endOf m = cond (eqb (getD m 0 0) 1) (Message (two m 1) (two m 3)) (cond (eqb (ge
 -- what is unfinished and not empty began with 0x01
 pub frame-begun : (a : ℕ) (l : List ℕ) → whole (a ∷ l) ≡ false → eqb a 1 ≡ true
 unfolding whole need
-frame-begun a l h = go (eqb a 1) refl h
+frame-begun a l h = go (eqb a 1) _ h
   where
-    go : (t : Bool) → eqb a 1 ≡ t → leb (cond t (5 + two (a ∷ l) 1) 1) (suc (length l)) ≡ false → t ≡ true
-    go true e h = refl
-    go false e h = absurd (omega (arith, leb-false 1 (suc (length l)) h))
+    go : (t : Bool) (u : ℕ) → leb (cond t u 1) (suc (length l)) ≡ false → t ≡ true
+    go true u h = refl
+    go false u h = absurd (omega (arith, leb-false 1 (suc (length l)) h))
 
 -- a header that is not whole waits on
-waits-on : (n u : ℕ) {L L′ S S′ : ℕ} (e : Outcome) → n < 5 + u → L ≡ L′ → S ≡ S′ → Waiting (half n L S) ≡ cond (leb (5 + u) n) e (Waiting (half n L′ S′))
-waits-on n u e q p p′ = rw (lt-leb (5 + u) n q) (λ i. Waiting (half n (p i) (p′ i)))
+waits-on : (n u : ℕ) {L L′ S S′ : ℕ} (e : Outcome) → n < u → L ≡ L′ → S ≡ S′ → Waiting (half n L S) ≡ cond (leb u n) e (Waiting (half n L′ S′))
+waits-on n u e q p p′ = rw (lt-leb u n q) (λ i. Waiting (half n (p i) (p′ i)))
 
 ends-now : (g g′ L : ℕ) {S S′ : ℕ} → g + 1 ≡ g′ → S ≡ S′ → afterOf g L S ≡ cond (leb (5 + L) g′) (Message L S′) (Waiting (half g′ L S′))
 unfolding afterOf
@@ -48,14 +48,15 @@ ends-now g g′ L {S} {S′} q p = subst (λ (k : ℕ). afterOf g L S ≡ cond (
 -- one byte more of an unfinished message: its end where it is whole, and else how far it is read
 pub stepped : (r : List ℕ) (b : ℕ) → whole r ≡ false → stepOf (halfOf r) b ≡ cond (whole (more r b)) (endOf (more r b)) (Waiting (halfOf (more r b)))
 unfolding stepOf firstOf whole need
-stepped [] b h = go (eqb b 1) (cond (eqb b 6) KeepAlive Stray)
+stepped [] b h = go (eqb b 1) (cond (eqb b 6) KeepAlive Stray) _ (omega arith)
   where
-    go : (t : Bool) (e : Outcome) → cond t (Waiting (half 1 0 0)) e ≡ cond (leb (cond t 5 1) 1) (cond t (Message 0 0) e) (Waiting (half 1 0 0))
-    go true e = refl
-    go false e = refl
-stepped (a ∷ []) b h = rw (frame-begun a [] h) (waits-on 2 (b % 256 * 256 + 0) _ (omega arith) (omega arith) refl)
-stepped (a ∷ a₁ ∷ []) b h = rw (frame-begun a (a₁ ∷ []) h) (waits-on 3 (a₁ % 256 * 256 + b % 256) _ (omega arith) (omega arith) refl)
-stepped (a ∷ a₁ ∷ a₂ ∷ []) b h = rw (frame-begun a (a₁ ∷ a₂ ∷ []) h) (waits-on 4 (a₁ % 256 * 256 + a₂ % 256) _ (omega arith) refl (omega arith))
+    go : (t : Bool) (e : Outcome) (u : ℕ) → 1 < u
+        → cond t (Waiting (half 1 0 0)) e ≡ cond (leb (cond t u 1) 1) (cond t (Message 0 0) e) (Waiting (half 1 0 0))
+    go true e u l = rw (lt-leb u 1 l)
+    go false e u l = refl
+stepped (a ∷ []) b h = rw (frame-begun a [] h) (waits-on 2 (5 + (b % 256 * 256 + 0)) _ (omega arith) (omega arith) refl)
+stepped (a ∷ a₁ ∷ []) b h = rw (frame-begun a (a₁ ∷ []) h) (waits-on 3 (5 + (a₁ % 256 * 256 + b % 256)) _ (omega arith) (omega arith) refl)
+stepped (a ∷ a₁ ∷ a₂ ∷ []) b h = rw (frame-begun a (a₁ ∷ a₂ ∷ []) h) (waits-on 4 (5 + (a₁ % 256 * 256 + a₂ % 256)) _ (omega arith) refl (omega arith))
 stepped (a ∷ a₁ ∷ a₂ ∷ a₃ ∷ []) b h = rw (frame-begun a (a₁ ∷ a₂ ∷ a₃ ∷ []) h) (ends-now 4 5 (a₁ % 256 * 256 + a₂ % 256) refl (omega arith))
 stepped (a ∷ a₁ ∷ a₂ ∷ a₃ ∷ a₄ ∷ l) b h = rw (
   late (length (a ∷ a₁ ∷ a₂ ∷ a₃ ∷ a₄ ∷ l)) (a₁ % 256 * 256 + a₂ % 256) (a₃ % 256 * 256 + a₄ % 256) b
