@@ -12,8 +12,6 @@ ghost use Rattle.pieces.specs.Pieces.{bytesCall, halvesAfter, roomsAfter};
 ghost use Rattle.board.specs.Calls.{levelCall, passCall, passedIn, connectCall, closeCall, collectCall};
 use pieces::Done;
 use powerup::Settings;
-use powerup::Settings;
-use ring::Pulse;
 use ring::Pulse;
 use rows::ROWS;
 
