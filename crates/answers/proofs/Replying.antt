@@ -24,7 +24,8 @@ part-rest a l = take-all (length l - a) (drop a l) (omega (arith, length-drop a 
 pub part-long : (a : ℕ) (l : List ℕ) → length (take (length l - a) (drop a l)) ≡ length l - a
 part-long a l = ap length (part-rest a l) ∙ length-drop a l
 
-pub given-back : (a : ℕ) (vs l out : List ℕ) → out ≡ put 0 vs (take (length l - a) (drop a l)) → take a l ++ (out ++ drop (length l - a) (drop a l)) ≡ put a vs l
+pub given-back : (a : ℕ) (vs l out : List ℕ) → out ≡ put 0 vs (take (length l - a) (drop a l)) → take a l ++ (out ++ drop (length l - a) (drop a l)) ≡
+    put a vs l
 given-back a vs l out e =
     let z : drop (length l - a) (drop a l) ≡ [] = drop-of-length-le (drop a l) {i = length l - a} (omega (arith, length-drop a l)) in
     rw (z, append-nil, e, part-rest a l) (put-part a vs l)

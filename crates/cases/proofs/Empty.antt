@@ -99,11 +99,13 @@ module _ (row : List Pulse) where
   not-yet = refl
 
   changes-once : closedOne (toggled (opened row)) ≡ true
-  unfolding relayAt lineAt putRelay putLine onRows poweredUp connected openedLine seen servedMessage servedContent orderOf commandOf judgeCommand onChannel fits numberAt obeyed onRelay marked markedRow
+  unfolding relayAt lineAt putRelay putLine onRows poweredUp connected openedLine seen servedMessage servedContent orderOf commandOf judgeCommand
+      onChannel fits numberAt obeyed onRelay marked markedRow
   changes-once = refl
 
   changes-twice : closedOne (toggled (toggled (opened row))) ≡ false
-  unfolding relayAt lineAt putRelay putLine onRows poweredUp connected openedLine seen servedMessage servedContent orderOf commandOf judgeCommand onChannel fits numberAt obeyed onRelay marked markedRow
+  unfolding relayAt lineAt putRelay putLine onRows poweredUp connected openedLine seen servedMessage servedContent orderOf commandOf judgeCommand
+      onChannel fits numberAt obeyed onRelay marked markedRow
   changes-twice = refl
 
 -- a row of pulses that is long enough

@@ -100,11 +100,13 @@ abbrev countOne : Tables → ℕ
 countOne t = inputAt 1 (t .board) .count
 
 box-clocking : countOne (tablesOf (ends settings halves rooms noPulses clocking)) ≡ 1
-unfolding put fits numberAt stepOf firstOf afterOf roomOf runOf inputAt lineAt putInput putLine clockSet onRows onInput told levelOf judgeSetClock setClockOf orderOf markedRow marked openedLine leveled connected clockTold obeyed servedContent servedMessage poweredUp halfAt putHalf bytesCall
+unfolding put fits numberAt stepOf firstOf afterOf roomOf runOf inputAt lineAt putInput putLine clockSet onRows onInput told levelOf judgeSetClock
+    setClockOf orderOf markedRow marked openedLine leveled connected clockTold obeyed servedContent servedMessage poweredUp halfAt putHalf bytesCall
 box-clocking = refl
 
 uncounting-clocking : countOne (tablesOf (final served (boxWith uncountingCall) up clocking)) ≡ 0
-unfolding put fits numberAt stepOf firstOf afterOf roomOf runOf inputAt lineAt putInput putLine clockSet onRows onInput told levelOf judgeSetClock setClockOf orderOf markedRow marked openedLine leveled connected clockTold obeyed servedContent servedMessage poweredUp halfAt putHalf bytesCall
+unfolding put fits numberAt stepOf firstOf afterOf roomOf runOf inputAt lineAt putInput putLine clockSet onRows onInput told levelOf judgeSetClock
+    setClockOf orderOf markedRow marked openedLine leveled connected clockTold obeyed servedContent servedMessage poweredUp halfAt putHalf bytesCall
 uncounting-clocking = refl
 
 pub shut-out-uncounting : Demand3 served (boxWith uncountingCall) up clocking → ⊥
@@ -122,22 +124,26 @@ same-number : (call : Held → Call served → Held × Answer served) (i : ℕ) 
 same-number call i calls D = ap (λ (ns : List ℕ). getD ns i 0) (same-numbers call calls D)
 
 box-crossing : boxNumber 3 crossing ≡ 2
-unfolding put stepOf firstOf afterOf roomOf runOf lineAt putLine onRows openedLine connected servedMessage poweredUp halfAt putHalf bytesCall halvesAfter roomsAfter rowAfter queueOf
+unfolding put stepOf firstOf afterOf roomOf runOf lineAt putLine onRows openedLine connected servedMessage poweredUp halfAt putHalf bytesCall
+    halvesAfter roomsAfter rowAfter queueOf
 box-crossing = refl
 
 shared-crossing : numberWith sharedCall 3 crossing ≡ 0
-unfolding put stepOf firstOf afterOf roomOf runOf lineAt putLine onRows openedLine connected servedMessage poweredUp halfAt putHalf bytesCall halvesAfter roomsAfter rowAfter queueOf
+unfolding put stepOf firstOf afterOf roomOf runOf lineAt putLine onRows openedLine connected servedMessage poweredUp halfAt putHalf bytesCall
+    halvesAfter roomsAfter rowAfter queueOf
 shared-crossing = refl
 
 pub shut-out-shared : Demand3 served (boxWith sharedCall) up crossing → ⊥
 shut-out-shared D = omega (arith, sym shared-crossing ∙ same-number sharedCall 3 crossing D ∙ box-crossing)
 
 box-reopening : boxNumber 4 reopening ≡ 2
-unfolding put stepOf firstOf afterOf roomOf runOf lineAt putLine onRows openedLine connected closed servedMessage poweredUp halfAt putHalf bytesCall halvesAfter roomsAfter rowAfter queueOf
+unfolding put stepOf firstOf afterOf roomOf runOf lineAt putLine onRows openedLine connected closed servedMessage poweredUp halfAt putHalf bytesCall
+    halvesAfter roomsAfter rowAfter queueOf
 box-reopening = refl
 
 keeping-reopening : numberWith keepingCall 4 reopening ≡ 0
-unfolding put stepOf firstOf afterOf roomOf runOf lineAt putLine onRows openedLine connected closed servedMessage poweredUp halfAt putHalf bytesCall halvesAfter roomsAfter rowAfter queueOf
+unfolding put stepOf firstOf afterOf roomOf runOf lineAt putLine onRows openedLine connected closed servedMessage poweredUp halfAt putHalf bytesCall
+    halvesAfter roomsAfter rowAfter queueOf
 keeping-reopening = refl
 
 pub shut-out-keeping : Demand3 served (boxWith keepingCall) up reopening → ⊥

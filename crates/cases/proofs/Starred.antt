@@ -46,27 +46,38 @@ both : {xs ys : List Row} → Holds xs → Holds ys → Holds (xs ++ ys)
 both {xs} {ys} p q = record { rows = rw (map-both (λ (r : Row). r .does) xs ys, map-both (λ (r : Row). r .owes) xs ys, p .rows, q .rows) }
 
 count-top : Holds countTop
-unfolding countTop inputAt putInput onInput told levelOf idOf firstWith deviceOf inputWritten writeInput fitsExactly judgeWrite writeOf deviceDone writtenFrom markedRow leveled put fits numberAt stepOf firstOf afterOf roomOf runOf lineAt putLine onRows orderOf openedLine marked connected obeyed servedContent servedMessage poweredUp halfAt putHalf bytesCall halvesAfter roomsAfter rowAfter queueOf
+unfolding countTop inputAt putInput onInput told levelOf idOf firstWith deviceOf inputWritten writeInput fitsExactly judgeWrite writeOf deviceDone
+    writtenFrom markedRow leveled put fits numberAt stepOf firstOf afterOf roomOf runOf lineAt putLine onRows orderOf openedLine marked connected
+    obeyed servedContent servedMessage poweredUp halfAt putHalf bytesCall halvesAfter roomsAfter rowAfter queueOf
 count-top = record { rows = refl }
 
 told-again : Holds toldAgain
-unfolding toldAgain inputAt putInput onInput told levelOf markedRow leveled monitorSent collected lineAt putLine onRows openedLine marked connected poweredUp putHalf
+unfolding toldAgain inputAt putInput onInput told levelOf markedRow leveled monitorSent collected lineAt putLine onRows openedLine marked connected
+    poweredUp putHalf
 told-again = record { rows = refl }
 
 blocks : Holds blockCases
-unfolding blockCases anyBelow relayAt masked blockedRow blockOf ifSized judgeCommand commandOf relaysOf markedRow monitorSent collected put fits numberAt stepOf firstOf afterOf roomOf runOf lineAt putLine onRows orderOf openedLine marked connected obeyed servedContent servedMessage poweredUp halfAt putHalf bytesCall halvesAfter roomsAfter rowAfter queueOf
+unfolding blockCases anyBelow relayAt masked blockedRow blockOf ifSized judgeCommand commandOf relaysOf markedRow monitorSent collected put fits
+    numberAt stepOf firstOf afterOf roomOf runOf lineAt putLine onRows orderOf openedLine marked connected obeyed servedContent servedMessage
+    poweredUp halfAt putHalf bytesCall halvesAfter roomsAfter rowAfter queueOf
 blocks = record { rows = refl }
 
 channels : Holds channelEdges
-unfolding channelEdges relayAt putRelay onRelay onChannel judgeCommand commandOf relaysOf markedRow put fits numberAt stepOf firstOf afterOf roomOf runOf lineAt putLine onRows orderOf openedLine marked connected obeyed servedContent servedMessage poweredUp halfAt putHalf bytesCall halvesAfter roomsAfter rowAfter queueOf
+unfolding channelEdges relayAt putRelay onRelay onChannel judgeCommand commandOf relaysOf markedRow put fits numberAt stepOf firstOf afterOf roomOf
+    runOf lineAt putLine onRows orderOf openedLine marked connected obeyed servedContent servedMessage poweredUp halfAt putHalf bytesCall halvesAfter
+    roomsAfter rowAfter queueOf
 channels = record { rows = refl }
 
 lengths : Holds lengthCases
-unfolding lengthCases sizedRequest judgeRequest requestOf monitorSet put fits numberAt stepOf firstOf afterOf roomOf runOf lineAt putLine onRows orderOf openedLine marked connected obeyed servedContent servedMessage poweredUp halfAt putHalf bytesCall halvesAfter roomsAfter rowAfter queueOf
+unfolding lengthCases sizedRequest judgeRequest requestOf monitorSet put fits numberAt stepOf firstOf afterOf roomOf runOf lineAt putLine onRows
+    orderOf openedLine marked connected obeyed servedContent servedMessage poweredUp halfAt putHalf bytesCall halvesAfter roomsAfter rowAfter queueOf
 lengths = record { rows = refl }
 
 writes : Holds writeCases
-unfolding writeCases rows chunks inputAt relayAt putInput alarmState countAlarm usageAlarm onInput idOf firstWith deviceOf inputWritten writeInput fitsExactly judgeRead judgeWrite readOf writeOf inputsOf relaysOf inputRow monitorReply inputBlock readings.blockOf entryOf idsIn devicesReply deviceDone writtenFrom monitorSent collected put fits numberAt stepOf firstOf afterOf roomOf runOf lineAt putLine onRows orderOf openedLine marked connected obeyed servedContent servedMessage poweredUp halfAt putHalf bytesCall halvesAfter roomsAfter rowAfter queueOf
+unfolding writeCases rows chunks inputAt relayAt putInput alarmState countAlarm usageAlarm onInput idOf firstWith deviceOf inputWritten writeInput
+    fitsExactly judgeRead judgeWrite readOf writeOf inputsOf relaysOf inputRow monitorReply inputBlock readings.blockOf entryOf idsIn devicesReply
+    deviceDone writtenFrom monitorSent collected put fits numberAt stepOf firstOf afterOf roomOf runOf lineAt putLine onRows orderOf openedLine marked
+    connected obeyed servedContent servedMessage poweredUp halfAt putHalf bytesCall halvesAfter roomsAfter rowAfter queueOf
 writes = record { rows = refl }
 
 pub starred : map (λ (r : Row). r .does) starredCases ≡ map (λ (r : Row). r .owes) starredCases

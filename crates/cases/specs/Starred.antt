@@ -133,8 +133,10 @@ resetAndWrite =
 -- 01, Edges, 10: a count at its setpoint and one above; the first count alarm is byte 24 of a read block's reply and byte 28 of a Monitor message
 abbrev pub setpointEdge : List Row
 setpointEdge =
-    row (replyByte (writesInput 2 (0 ∷ 0 ∷ 0 ∷ 100 ∷ []) ∷ []) readsInput 24 ∷ replyByte (writesInput 2 (0 ∷ 0 ∷ 0 ∷ 100 ∷ []) ∷ []) collects 28 ∷ []) (0 ∷ 0 ∷ []) ∷
-    row (replyByte (writesInput 2 (0 ∷ 0 ∷ 0 ∷ 101 ∷ []) ∷ []) readsInput 24 ∷ replyByte (writesInput 2 (0 ∷ 0 ∷ 0 ∷ 101 ∷ []) ∷ []) collects 28 ∷ []) (1 ∷ 1 ∷ []) ∷ []
+    row (replyByte (writesInput 2 (0 ∷ 0 ∷ 0 ∷ 100 ∷ []) ∷ []) readsInput 24 ∷ replyByte (writesInput 2 (0 ∷ 0 ∷ 0 ∷ 100 ∷ []) ∷ []) collects 28 ∷ [])
+    (0 ∷ 0 ∷ []) ∷
+    row (replyByte (writesInput 2 (0 ∷ 0 ∷ 0 ∷ 101 ∷ []) ∷ []) readsInput 24 ∷ replyByte (writesInput 2 (0 ∷ 0 ∷ 0 ∷ 101 ∷ []) ∷ []) collects 28 ∷ [])
+    (1 ∷ 1 ∷ []) ∷ []
 
 -- all of them; what is named here is computed by itself
 unfoldable pub blockCases : List Row

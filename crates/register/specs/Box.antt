@@ -58,7 +58,8 @@ tables b row = record { board = b; row = row }
 -- 01, Answer numbers, lines 3 and 4: what refuses a piece, room the reply buffer's length; 02, M-100, 5: 4 also for a row under 31
 abbrev pub refusalOf : Tables → ℕ → ℕ → Option Reply
 refusalOf t c room =
-    cond (isOpen c (t .board)) (cond (tooShort room || shortRow (length (t .row))) (some (refusing numbers.shortBuffer)) none) (some (refusing numbers.noConnection))
+    cond (isOpen c (t .board)) (cond (tooShort room || shortRow (length (t .row))) (some (refusing numbers.shortBuffer)) none)
+    (some (refusing numbers.noConnection))
 
 -- what each event does to the plain machine; 02, M-100, 6: the end of a pulse belongs to the time event in which it falls
 abbrev pub happens : Event → Tables → Did

@@ -22,8 +22,10 @@ returns c =
     let f = c .before .before .before .before .before .before .before .before in
     let a = f .before .before .before .before .before .before .before .args in
     let ρ : Run = fed (a .c) (a .piece .now) (a .halves .now) (a .rooms .now) in
-    let e = fed-as (a .c) (a .piece .now) (a .halves .now) (a .rooms .now) (f .before .half-at .ensures) (f .feed-part .ensures) in
-    (quietly (a .c) ρ (a .board .now) (e .0) (c .before .before .o .given .1) refl (c .quiet .ensures), (c .before .before .before .before .keep-half .ensures ∙ rw (e .0), e .1))
+    let e = fed-as (a .c) (a .piece .now) (a .halves .now) (a .rooms .now) (f .before .half-at .ensures) (f .feed-part .ensures) in (
+      quietly (a .c) ρ (a .board .now) (e .0) (c .before .before .o .given .1) refl (c .quiet .ensures),
+      (c .before .before .before .before .keep-half .ensures ∙ rw (e .0), e .1),
+    )
 
 -- a keep-alive
 returns-2 : tie.Need-returns-2
@@ -31,8 +33,10 @@ returns-2 c =
     let f = c .before .before .before .before .before .before .before in
     let a = f .before .before .before .before .before .before .before .args in
     let ρ : Run = fed (a .c) (a .piece .now) (a .halves .now) (a .rooms .now) in
-    let e = fed-as (a .c) (a .piece .now) (a .halves .now) (a .rooms .now) (f .before .half-at .ensures) (f .feed-part .ensures) in
-    (quietly (a .c) ρ (a .board .now) (e .0) (c .before .enum-told .given .1) refl (c .quiet2 .ensures), (c .before .before .before .keep-half .ensures ∙ rw (e .0), e .1))
+    let e = fed-as (a .c) (a .piece .now) (a .halves .now) (a .rooms .now) (f .before .half-at .ensures) (f .feed-part .ensures) in (
+      quietly (a .c) ρ (a .board .now) (e .0) (c .before .enum-told .given .1) refl (c .quiet2 .ensures),
+      (c .before .before .before .keep-half .ensures ∙ rw (e .0), e .1),
+    )
 
 -- a stray byte
 returns-3 : tie.Need-returns-3
@@ -40,8 +44,10 @@ returns-3 c =
     let f = c .before .before .before .before .before .before .before in
     let a = f .before .before .before .before .before .before .before .args in
     let ρ : Run = fed (a .c) (a .piece .now) (a .halves .now) (a .rooms .now) in
-    let e = fed-as (a .c) (a .piece .now) (a .halves .now) (a .rooms .now) (f .before .half-at .ensures) (f .feed-part .ensures) in
-    (quietly (a .c) ρ (a .board .now) (e .0) (c .before .enum-told2 .given .1) refl (c .quiet3 .ensures), (c .before .before .before .keep-half .ensures ∙ rw (e .0), e .1))
+    let e = fed-as (a .c) (a .piece .now) (a .halves .now) (a .rooms .now) (f .before .half-at .ensures) (f .feed-part .ensures) in (
+      quietly (a .c) ρ (a .board .now) (e .0) (c .before .enum-told2 .given .1) refl (c .quiet3 .ensures),
+      (c .before .before .before .keep-half .ensures ∙ rw (e .0), e .1),
+    )
 
 -- a message has ended: it is judged from the room as `feed` left it
 returns-4 : tie.Need-returns-4
