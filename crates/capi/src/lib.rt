@@ -1,4 +1,4 @@
-// The C boundary: one thin exported function an entry point, under the names of host/wellacorn.h.
+// The C boundary: one thin exported function for each entry point, under the names of host/wellacorn.h.
 // Board, halves and rooms go as pointers, a slice as pointer and length, settings and what a call came to by value. The lent row of pulses is
 // seen here and in the crate lent alone: what the board needs of it goes by value. Where no row is lent the contract is the board's own.
 

@@ -9,7 +9,5 @@ pub mod BoxLawful
 pub mod BoxDemand
 pub mod Laws
 pub mod Counts
-pub mod UniquePlain
-pub mod UniqueBoard
 pub mod Longest
 pub mod BoxContracts
