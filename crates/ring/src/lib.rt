@@ -1,6 +1,6 @@
-// Pulses asked for, and their queue as a ring of 31 places, by value: which request stands at which place of the lent row, and what is left when
-// the first is gone. It switches no relay and passes no time. Takes every queue, nonsense words too: of a number of pulses above 31, 31 stand;
-// the first stands at the rest of its place by 31.
+// Pulses asked for, and their queue as a ring of 31 places: which request stands at which place of the lent row, and what is left when the first
+// is gone. Queues come and go by value; of the board it reads the queue's row alone. It switches no relay and passes no time.
+// Takes every queue, nonsense words too: of a number of pulses above 31, 31 stand; the first stands at the rest of its place by 31.
 
 ghost use mathlib.Core.Path.{_≡_};
 ghost use mathlib.Core.Bool.{cond};

@@ -1,4 +1,5 @@
-// The lent board: rows of eight words, and the record that each row stands for. Rows are read and written here.
+// The lent board: rows of eight words, and the record that each row stands for. Rows are read and written here, but for the words in which
+// passing time grows (the crate tables).
 // Every function takes every board, nonsense words too, and every number: one that is no channel's, or no connection's, reads as blank,
 // and a store to it does nothing.
 
