@@ -1,5 +1,5 @@
--- The connections, without their half-read messages: which are open, and opening and closing one. Document 01, "What the box holds" and
--- "Events besides bytes".
+-- The connections, without their half-read messages: which are open, and opening and closing one: 01, What the box
+-- holds, 4, and Events, 3 and 4.
 use Rattle.numbers.specs.Numbers as numbers
 use mathlib.Core.Bool.{Bool, true, cond}
 use mathlib.Core.List.{[]}

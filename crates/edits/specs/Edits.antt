@@ -1,4 +1,4 @@
--- What is done to one input or one relay. Document 01, "Events besides bytes" and "Messages offered".
+-- What is done to one input or one relay: 01, Events, 1; Messages, 10, 2; and Messages, 23, 3 to 5.
 use mathlib.Core.Bool.{Bool, true, false, cond, not, _&&_, _||_}
 use Prim.Native.Nat.{ℕ, _+_, min}
 use lib.Dec.{eqb, ltb}

@@ -1,4 +1,4 @@
--- What a call of the host gives back, and what it leaves of the board and the reply buffer. Document 01, "Answer numbers".
+-- What a call of the host gives back, and what it leaves of the board and the reply buffer: 01, Answer numbers.
 use mathlib.Core.Path.{_≡_}
 use mathlib.Core.List.{List}
 use Prim.Native.Nat.{ℕ}

@@ -1,4 +1,4 @@
--- What a piece of bytes gives back, and what it leaves of the board, the half-read messages and the rooms. Document 01, "Answer numbers".
+-- What a piece of bytes gives back, and what it leaves of the board, the half-read messages and the rooms: 01, Answer numbers.
 use Rattle.numbers.specs.Numbers as numbers
 use mathlib.Core.Path.{_≡_}
 use mathlib.Core.Bool.{true, cond, _||_}

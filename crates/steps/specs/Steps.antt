@@ -1,4 +1,4 @@
--- One byte of a message: what the code promises, for every half-read message, nonsense included. Document 01, "Frame".
+-- One byte of a message: what the code promises, for every half-read message, nonsense included: 01, Frame, 1, 7 and 8.
 use Rattle.numbers.specs.Numbers as numbers
 use mathlib.Core.Bool.{cond}
 use mathlib.Core.List.{List}
