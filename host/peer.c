@@ -168,14 +168,16 @@ static uint8_t alarm_state(const peer_input *in)
     return in->alarm & in->level;
 }
 
-static uint8_t count_alarm(uint32_t count, uint32_t setpoint)
+/* 02, M-101, 3: the rule of the Monitor message's count alarms. */
+static uint8_t alarm_above(uint64_t number, uint64_t setpoint)
 {
-    return (setpoint != 0) & (count > setpoint);
+    return (setpoint != 0) & (number > setpoint);
 }
 
-static uint8_t usage_alarm(uint64_t usage, uint64_t setpoint)
+/* 02, M-101, 3: the rule of the read block's count alarms; usage alarms have it too. */
+static uint8_t alarm_at_or_above(uint64_t number, uint64_t setpoint)
 {
-    return (setpoint != 0) & (usage >= setpoint);
+    return (setpoint != 0) & (number >= setpoint);
 }
 
 /* ---- Pulses. 02, M-100, 3: beginning and end are two changes, so both say whether a relay really changed. */
@@ -236,14 +238,14 @@ static int device_of(uint64_t id)
 
 /* ---- Replies: each writes its content and gives the place behind it */
 
-/* What the Monitor message and the read block say alike of an input. */
-static uint8_t *put_input(uint8_t *p, const peer_input *in)
+/* What the Monitor message and the read block say alike of an input; each judges the count alarms itself. */
+static uint8_t *put_input(uint8_t *p, const peer_input *in, uint8_t one, uint8_t two)
 {
     p = put8(p, in->level);
     p = put8(p, alarm_state(in));
     p = put32(p, in->count);
-    p = put8(p, count_alarm(in->count, in->setpoint_one));
-    return put8(p, count_alarm(in->count, in->setpoint_two));
+    p = put8(p, one);
+    return put8(p, two);
 }
 
 static uint8_t *put_monitor(uint8_t *p, const peer_tables *tables)
@@ -254,7 +256,8 @@ static uint8_t *put_monitor(uint8_t *p, const peer_tables *tables)
     memcpy(p, version, sizeof version - 1);
     p += sizeof version - 1;
     for (int k = 0; k < WELLACORN_CHANNELS; k++) {
-        p = put_input(p, &tables->inputs[k]);
+        const peer_input *in = &tables->inputs[k];
+        p = put_input(p, in, alarm_above(in->count, in->setpoint_one), alarm_above(in->count, in->setpoint_two));
     }
     for (int k = 0; k < WELLACORN_CHANNELS; k++) {
         p = put8(p, tables->relays[k].closed);
@@ -292,15 +295,15 @@ static uint8_t *put_device(uint8_t *p, const peer_tables *tables, uint64_t id)
     if (device < WELLACORN_CHANNELS) {
         const peer_input *in = &tables->inputs[device];
         p = put16(p, 17);
-        p = put_input(p, in);
+        p = put_input(p, in, alarm_at_or_above(in->count, in->setpoint_one), alarm_at_or_above(in->count, in->setpoint_two));
         p = put64(p, in->usage);
-        return put8(p, usage_alarm(in->usage, in->usage_setpoint));
+        return put8(p, alarm_at_or_above(in->usage, in->usage_setpoint));
     }
     const peer_relay *relay = &tables->relays[device - WELLACORN_CHANNELS];
     p = put16(p, 10);
     p = put8(p, relay->closed);
     p = put64(p, relay->usage);
-    return put8(p, usage_alarm(relay->usage, relay->usage_setpoint));
+    return put8(p, alarm_at_or_above(relay->usage, relay->usage_setpoint));
 }
 
 /* ---- Messages. Each is given its content of n bytes and writes a reply's content to *end on, which it moves behind it. */

@@ -273,11 +273,17 @@ static const char *alarm_word(bool on, const char *word)
     return on ? word : "";
 }
 
+/* 02, M-101, 3: above the setpoint both messages show the alarm, at it the read block alone. */
+static const char *count_words(uint64_t count, uint64_t setpoint, const char *above, const char *at)
+{
+    return setpoint == 0 || count < setpoint ? "" : count > setpoint ? above : at;
+}
+
 static void told_input(int k, const wellacorn_input *in)
 {
     say("state: input %d %s, count %" PRIu64 ", usage %" PRIu64 " ms%s%s%s%s", k, in->level ? "on" : "off", in->count, in->usage,
-        alarm_word(in->alarm && in->level, ", alarm"), alarm_word(in->setpoint_one > 0 && in->count > in->setpoint_one, ", count alarm 1"),
-        alarm_word(in->setpoint_two > 0 && in->count > in->setpoint_two, ", count alarm 2"),
+        alarm_word(in->alarm && in->level, ", alarm"), count_words(in->count, in->setpoint_one, ", count alarm 1", ", setpoint 1 reached"),
+        count_words(in->count, in->setpoint_two, ", count alarm 2", ", setpoint 2 reached"),
         alarm_word(in->usage_setpoint > 0 && in->usage >= in->usage_setpoint, ", usage alarm"));
 }
 

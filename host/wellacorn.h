@@ -75,7 +75,7 @@ typedef struct {
     uint64_t level;             /* on or off */
     uint64_t alarm;             /* the alarm switch: where it is set, the input's Alarm State is its level */
     uint64_t count;             /* rises, off to on; 4294967295 at most */
-    uint64_t setpoint_one;      /* of count alarm 1: on above it; where it is 0, never */
+    uint64_t setpoint_one;      /* of count alarm 1: on above it in the Monitor message, from it on in the read block; where it is 0, never */
     uint64_t setpoint_two;      /* of count alarm 2, the same */
     uint64_t usage;             /* how long the input has been on; at its largest number it stands still */
     uint64_t usage_setpoint;    /* of the usage alarm: on from it on; where it is 0, never */

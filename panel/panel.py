@@ -92,9 +92,17 @@ class Fields:
         return int.from_bytes(self.bytes(size), "big")
 
 
-def input_status(fields):
-    return {"on": fields.number() == 1, "alarm": fields.number() == 1, "count": fields.number(4),
-            "count_alarm_1": fields.number() == 1, "count_alarm_2": fields.number() == 1}
+# The count alarms of the two messages that have them (001): the Monitor message's are 1 above the setpoint and light the lamp, the read
+# block's are 1 from the setpoint on.  At the setpoint itself they differ, so each is kept under its own name.
+MONITOR_ALARMS = ("count_alarm_1", "count_alarm_2")
+BLOCK_ALARMS = ("reached_1", "reached_2")
+
+
+def input_status(fields, count_alarms):
+    """What both messages say of an input."""
+    status = {"on": fields.number() == 1, "alarm": fields.number() == 1, "count": fields.number(4)}
+    status.update((name, fields.number() == 1) for name in count_alarms)
+    return status
 
 
 class Stream:
@@ -134,7 +142,7 @@ class Box:
         self.version = 0                        # grows with each change of what follows
         self.seen = {"answers": False, "since": time.time(), "check": "The panel is connecting.", "box": f"{address[0]}:{address[1]}",
                      "at": None, "name": "", "clock": 0, "standing": None,
-                     "inputs": [dict(on=False, alarm=False, count=0, count_alarm_1=False, count_alarm_2=False, usage_alarm=False)
+                     "inputs": [dict.fromkeys(("on", "alarm", *MONITOR_ALARMS, *BLOCK_ALARMS, "usage_alarm"), False) | {"count": 0}
                                 for _ in CHANNELS],
                      "relays": [dict(closed=False, usage_alarm=False) for _ in CHANNELS]}
         self.sending = threading.Lock()
@@ -173,7 +181,7 @@ class Box:
 
     def take_monitor(self, fields):
         name = fields.bytes(fields.number()).decode("ascii", "replace")
-        inputs = [{**old, **input_status(fields)} for old in self.seen["inputs"]]
+        inputs = [{**old, **input_status(fields, MONITOR_ALARMS)} for old in self.seen["inputs"]]
         relays = [{**old, "closed": fields.number() == 1} for old in self.seen["relays"]]
         self.change(name=name, inputs=inputs, relays=relays, clock=fields.number(8))
 
@@ -184,7 +192,7 @@ class Box:
             block = Fields(fields.bytes(fields.number(2)))
             if device in INPUT_IDS:
                 at = INPUT_IDS.index(device)
-                inputs[at] = {**input_status(block), "usage": block.number(8), "usage_alarm": block.number() == 1}
+                inputs[at] = {**inputs[at], **input_status(block, BLOCK_ALARMS), "usage": block.number(8), "usage_alarm": block.number() == 1}
             elif device in RELAY_IDS:
                 at = RELAY_IDS.index(device)
                 relays[at] = {"closed": block.number() == 1, "usage": block.number(8), "usage_alarm": block.number() == 1}
@@ -214,7 +222,7 @@ class Box:
         """Sends messages, and a round behind them; gives the number of the round, which is answered when all before it is done."""
         ids = INPUT_IDS + RELAY_IDS
         devices = b"\x15" + len(ids).to_bytes(2, "big") + b"".join(id.to_bytes(8, "big") for id in ids)
-        messages = [*contents, HOW_MANY, devices, b"\x05\x00\x00"]
+        messages = [*contents, HOW_MANY, devices, b"\x05\x00\x01", b"\x05\x00\x00"]
         with self.sending:
             if self.socket is None:
                 raise Lost("There is no connection to it.")
@@ -277,7 +285,7 @@ class Box:
             self.socket = connection
             self.asked = self.answered = 0
             self.counts, self.told = [], {}
-        self.send(b"\x05\x00\x01")
+        self.send()
         heard = time.monotonic()
         next_round = heard + ROUND
         while True:

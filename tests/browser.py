@@ -121,7 +121,7 @@ FOCUSED = "document.activeElement.getAttribute('aria-label')"
 
 def busy_morning(host, client):
     """Counts, levels, closed relays and alarms."""
-    for k, fish in ((1, 12), (2, 3), (3, 41), (4, 7), (5, 0), (6, 58), (7, 19), (8, 1)):
+    for k, fish in ((1, 12), (2, 3), (3, 41), (4, 7), (5, 0), (6, 58), (7, 20), (8, 1)):
         for _ in range(fish):
             host.tell(f"level {k} 1")
             host.tell(f"level {k} 0")
@@ -133,9 +133,12 @@ def busy_morning(host, client):
 
 def try_page(browser, host, folder):
     browser.ask("Emulation.setDeviceMetricsOverride", **TABLET)
-    browser.wait_for(f"{TEXT}.includes('143 counted in all')", "the counts of eight inputs and their sum are shown")
+    browser.wait_for(f"{TEXT}.includes('144 counted in all')", "the counts of eight inputs and their sum are shown")
     browser.wait_for(f"{TEXT}.includes('ALARM: input 3 count alarm 1; input 6 count alarms 1 and 2; input 8 alarm')",
                      "the alarms are told in words")
+    seven = "document.querySelectorAll('#inputs .alarm')[6]"
+    browser.wait_for(f"{seven}.textContent === 'setpoint 1 reached' && !{seven}.classList.contains('on')",
+                     "a count at its setpoint is told, and lights no lamp")
     browser.wait_for(f"{TEXT}.includes('2025-11-15 07:12')", "the clock of the box is shown")
     browser.picture(os.path.join(folder, "panel-tablet.png"), TABLET)
     assert browser.value("document.documentElement.scrollHeight") <= 800, "the page does not fit a tablet"

@@ -202,9 +202,13 @@ class Box:
         """What the box holds, 8: an input that is on, with its switch set."""
         return 1 if inp.switch and inp.level else 0
 
-    def count_alarm(self, count, setpoint):
-        """What the box holds, 7 and 9: above the setpoint, where there is one; the same in both messages."""
+    def monitor_count_alarm(self, count, setpoint):
+        """What the box holds, 7, and M-101, 2 and 3: in the Monitor message above the setpoint, where there is one."""
         return 1 if setpoint and count > setpoint else 0
+
+    def block_count_alarm(self, count, setpoint):
+        """What the box holds, 7, and M-101, 2 and 3: in the read block from the setpoint on, where there is one."""
+        return 1 if setpoint and count >= setpoint else 0
 
     def usage_alarm(self, usage, setpoint):
         """What the box holds, 7 and 10: from the setpoint on, where there is one."""
@@ -461,17 +465,16 @@ class Box:
         """Messages, 1, 1: type 1: the version behind its length, the inputs, the relays, the clock; 97 bytes."""
         content = bytearray(b"\x01" + field(len(VERSION), 1) + VERSION)
         for inp in self.inputs:
-            content += self.input_status(inp)
+            content += self.input_status(inp, self.monitor_count_alarm)
         for relay in self.relays:
             content.append(relay.state)
         content += field(self.clock, 8)
         return bytes(content)
 
-    def input_status(self, inp):
-        """Messages, 1, 1, and 21, 4: what Monitor message and read block share."""
+    def input_status(self, inp, count_alarm):
+        """Messages, 1, 1, and 21, 4: the fields that Monitor message and read block share, each with its own count alarm."""
         return (field(inp.level, 1) + field(self.alarm_state(inp), 1) + field(inp.count, 4)
-                + field(self.count_alarm(inp.count, inp.setpoint1), 1)
-                + field(self.count_alarm(inp.count, inp.setpoint2), 1))
+                + field(count_alarm(inp.count, inp.setpoint1), 1) + field(count_alarm(inp.count, inp.setpoint2), 1))
 
     def usage_content(self):
         """Messages, 5, 4: type 8: the usages of inputs and relays, the clock; 137 bytes."""
@@ -591,13 +594,13 @@ class Box:
         return bytes(content)
 
     def read_block(self, id):
-        """Messages, 21, 3 to 5: nothing of an unknown ID; else what Monitor shows of the device, its usage and
-        usage alarm: 17 bytes of an input, 10 of a relay.
+        """Messages, 21, 3 to 5: nothing of an unknown ID; else the fields that Monitor shows of the device, its usage
+        and usage alarm: 17 bytes of an input, 10 of a relay.
         """
         device = self.devices.get(id)
         if device is None:
             return b""
-        status = self.input_status(device) if id in INPUT_IDS else field(device.state, 1)
+        status = self.input_status(device, self.block_count_alarm) if id in INPUT_IDS else field(device.state, 1)
         return (status + field(device.usage, 8)
                 + field(self.usage_alarm(device.usage, device.usage_setpoint), 1))
 

@@ -88,10 +88,29 @@ class _(Box):
 
 # -- alarms ----------------------------------------------------------------------------------------
 
-@named("count alarm at the setpoint")
+@named("Monitor's count alarm by the read block's rule")
 class _(Box):
-    def count_alarm(self, count, setpoint):
-        return 1 if setpoint and count >= setpoint else 0
+    def monitor_count_alarm(self, count, setpoint):
+        return self.block_count_alarm(count, setpoint)
+
+
+@named("read block's count alarm by Monitor's rule")
+class _(Box):
+    def block_count_alarm(self, count, setpoint):
+        return self.monitor_count_alarm(count, setpoint)
+
+
+@named("the two rules exchanged")
+class _(Box):
+    def input_status(self, inp, count_alarm):
+        other = self.block_count_alarm if count_alarm == self.monitor_count_alarm else self.monitor_count_alarm
+        return super().input_status(inp, other)
+
+
+@named("read block's second count alarm by Monitor's rule")
+class _(Box):
+    def input_status(self, inp, count_alarm):
+        return super().input_status(inp, count_alarm)[:-1] + field(self.monitor_count_alarm(inp.count, inp.setpoint2), 1)
 
 
 @named("usage alarm only above the setpoint")
@@ -100,10 +119,22 @@ class _(Box):
         return 1 if setpoint and usage > setpoint else 0
 
 
-@named("count setpoint 0 alarms")
+@named("count setpoint 0 alarms in the Monitor message")
 class _(Box):
-    def count_alarm(self, count, setpoint):
+    def monitor_count_alarm(self, count, setpoint):
         return 1 if count > setpoint else 0
+
+
+@named("count setpoint 0 alarms in the read block")
+class _(Box):
+    def block_count_alarm(self, count, setpoint):
+        return 1 if count >= setpoint else 0
+
+
+@named("the read block's 0 looked for in the count")
+class _(Box):
+    def block_count_alarm(self, count, setpoint):
+        return 1 if count and count >= setpoint else 0
 
 
 @named("usage setpoint 0 alarms")

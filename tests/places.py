@@ -23,7 +23,7 @@ OF_01 = (
     + ["Answer numbers, line %d" % n for n in range(14)] + ["Answer numbers, Taken", "Answer numbers, Left"] + counted("Answer numbers", 8)
     + counted("Messages", 2) + [p for kind, n in MESSAGES for p in counted("Messages, %d" % kind, n)] + ["Messages, IDs"]
     + counted("Edges", 11) + counted("Console", 6) + counted("Mistakes", 5) + counted("Forms", 16) + counted("Register", 5))
-LANDED = [("M-100", 7)]  # a request that has its page in docs/changes, and the sentences of its paragraph
+LANDED = [("M-100", 7), ("M-101", 4)]  # a request that has its page in docs/changes, and the sentences of its paragraph
 OF_02 = counted("Requests", 3) + [p for request, n in LANDED for p in counted(request, n)]
 SECTIONS = {p.split(", ")[0] for p in OF_01 + OF_02}
 ITEMS = ["Messages, %d" % kind for kind, _ in MESSAGES]  # a comment may name a whole one
@@ -100,7 +100,7 @@ def try_itself(trace):
     }
     blind = [what for what, page in tries.items() if not complaints("\n".join(page))]
     for text, right in (("-- 01, Events, 9: x", False), ("-- 01, Answer numbers, line 14: x", False), ("-- 01, Messages offered, 7: x", False),
-                        ("-- 01, Both sides, 1", False), ("-- 01, Messages, 5, 7", False), ("-- 02, M-100, 8", False), ("-- 02, M-101, 1", False),
+                        ("-- 01, Both sides, 1", False), ("-- 01, Messages, 5, 7", False), ("-- 02, M-100, 8", False), ("-- 02, M-101, 5", False), ("-- 02, M-102, 1", False),
                         ("-- 01, Messages, 23, 4 and 5, and Events, 8", True), ("-- 01, Frame, 1, 6, 13 and 14.", True),
                         ("-- so 01, Answer\n-- numbers, lines 6 and 7", True), ("-- 01, What the box holds, 7 and 9: y", True)):
         if bool(misnamed(text)) == right:

@@ -315,6 +315,19 @@ class Events(Case):
             self.assertTrue(host.find(r"state: connection 0 is 127\.0\.0\.1:\d+, administrator, Monitor on, 0 bytes"))
             self.assertTrue(host.find("state: connection 3 is free"))
 
+    def test_state_at_the_setpoints(self):
+        """M-101: `state` tells a count that stands at its setpoint from one above it."""
+        with Boxd("--quiet", "--settings", settings_file(self.folder.name)) as host:
+            words = {2: "", 3: ", setpoint 1 reached", 4: ", count alarm 1", 7: ", count alarm 1, setpoint 2 reached",
+                     8: ", count alarm 1, count alarm 2"}
+            for count in range(1, 9):
+                host.tell("level 1 1\nlevel 1 0")
+                if count in words:
+                    before = len(host.lines)
+                    host.tell("state")
+                    host.wait_for(rf"state: input 1 off, count {count}, usage \d+ ms{words[count]}$", before)
+            host.quit()
+
     def test_without_standard_input(self):
         """The end of standard input ends the commands, not the box."""
         with Boxd("--quiet") as host, Client(host.port) as client:

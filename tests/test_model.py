@@ -142,15 +142,27 @@ class EachEdge(Case):
         self.assertEqual(self.write((INPUT_IDS[0], "0300000007")), 1)
         self.assertEqual(self.count(), 7)
 
-    def test_setpoint_100(self):
-        """Edges, 10."""
-        self.power(setpoint1=100, setpoint2=0)
-        self.write((INPUT_IDS[0], "0200000064"))
-        self.assertEqual(self.read(INPUT_IDS[0])[12:16], "0000")
-        self.assertEqual(self.content("050001")[1][34:50], "0000000000640000")
-        self.write((INPUT_IDS[0], "0200000065"))
-        self.assertEqual(self.read(INPUT_IDS[0])[12:16], "0100")
-        self.assertEqual(self.content("050001")[1][34:50], "0000000000650100")
+    def test_setpoint_100_in_monitor(self):
+        """Edges, 10, as M-101, 4 splits it: in the Monitor message 100 is no alarm yet."""
+        self.power(setpoint1=100)
+        for count, alarms in (("63", "0000"), ("64", "0000"), ("65", "0100")):
+            self.write((INPUT_IDS[0], "02000000" + count))
+            self.assertEqual(self.content("050001")[1][34:50], "0000" + "000000" + count + alarms)
+
+    def test_setpoint_100_in_the_read_block(self):
+        """Edges, 10, as M-101, 4 splits it: in the read block 100 is an alarm already."""
+        self.power(setpoint1=100)
+        for count, alarms in (("63", "0000"), ("64", "0100"), ("65", "0100")):
+            self.write((INPUT_IDS[0], "02000000" + count))
+            self.assertEqual(self.read(INPUT_IDS[0])[:16], "0000" + "000000" + count + alarms)
+
+    def test_the_second_setpoint_likewise(self):
+        """M-101, 3: each rule holds of both count alarms; the largest setpoint is never exceeded."""
+        self.power(setpoint1=100, setpoint2=TOP32)
+        for count, block, monitor in (("FFFFFFFE", "0100", "0100"), ("FFFFFFFF", "0101", "0100")):
+            self.write((INPUT_IDS[0], "02" + count))
+            self.assertEqual(self.read(INPUT_IDS[0])[12:16], block)
+            self.assertEqual(self.content("050001")[1][46:50], monitor)
 
     def test_n_1024_judged_1025_not(self):
         """Edges, 11."""
@@ -309,10 +321,13 @@ class BoxAndEvents(Case):
             self.assertEqual(self.read(INPUT_IDS[0])[:4], f"010{switch}")
 
     def test_setpoint_0_means_no_alarm(self):
-        """What the box holds, 7."""
+        """What the box holds, 7: in both messages, at a count of 0 and above."""
+        self.assertEqual(self.read(INPUT_IDS[0])[12:16], "0000")
+        self.assertEqual(self.content("050001")[1][46:50], "0000")
         self.box.level(1, 1)
         self.box.pass_(1)
         self.assertEqual(self.read(INPUT_IDS[0]), "0100" + "00000001" + "0000" + "0000000000000001" + "00")
+        self.assertEqual(self.content("050001")[1][34:50], "0100" + "00000001" + "0000")
 
     def test_usage_alarm_at_or_above(self):
         """What the box holds, 10."""

@@ -132,6 +132,33 @@ class Case(unittest.TestCase):
                 panel.wait_until(lambda s: s["inputs"][2]["count"] == 0)
                 host.quit()
 
+    def test_count_alarms(self):
+        """M-101: the lamp's count alarms are the Monitor message's, on above the setpoint; the read block's, on from it, stand beside them.
+        A count that is cleared puts both out, though the box sends no Monitor message for it by itself.
+        """
+        with tempfile.NamedTemporaryFile("w") as settings:
+            settings.write("2 3 0 0 " * 8 + "0 " * 8)
+            settings.flush()
+            with Boxd("--quiet", "--settings", settings.name) as host, Panel(host.port) as panel, Client(host.port) as client:
+                panel.wait_until(answers)
+
+                def shows(count, lamp, reached):
+                    self.assertEqual(panel.press(1, False)[0], 200)      # looks at the box at once
+                    three = panel.state()["inputs"][2]
+                    self.assertEqual((three["count"], three["count_alarm_1"], three["count_alarm_2"], three["reached_1"], three["reached_2"]),
+                                     (count, *lamp, *reached))
+
+                for count, lamp, reached in ((1, (False, False), (False, False)), (2, (False, False), (True, False)),
+                                             (3, (True, False), (True, True)), (4, (True, True), (True, True))):
+                    host.tell("level 3 1")
+                    host.wait_for(f"input 3 is on: {count} counted")
+                    host.tell("level 3 0")
+                    shows(count, lamp, reached)
+                client.send(frame(b"\x0A\x05\x00\x03"))
+                client.ask(MONITOR, 1)
+                shows(0, (False, False), (False, False))
+                host.quit()
+
     def test_buttons(self):
         """A button switches its relay, and says so when the box shows it; a second press of the same changes nothing."""
         with Boxd("--quiet") as host, Panel(host.port) as panel, Client(host.port) as client:

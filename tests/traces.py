@@ -562,10 +562,17 @@ class Maker:
         self.send(c, b"\x15\x00\x01" + field(INPUT_IDS[k], 8))
 
     def scene_count_alarm(self, c):
+        """From one below a setpoint to one above it, a fish at a time: both messages that show count alarms are asked for each time."""
         k = self.rng.randrange(8)
-        self.send(c, b"\x17\x00\x01" + field(INPUT_IDS[k], 8) + b"\x00\x05\x02" + field(self.some_count(INPUT_IDS[k]), 4))
-        self.send(c, self.pick(b"\x05\x00\x01", b"\x15\x00\x01" + field(INPUT_IDS[k], 8)))
-        self.say(f"level {k + 1} {1 - self.box.inputs[k].level}")
+        inp, read = self.box.inputs[k], b"\x15\x00\x01" + field(INPUT_IDS[k], 8)
+        below = max(0, self.pick(inp.setpoint1, inp.setpoint2) - 1)
+        self.send(c, b"\x17\x00\x01" + field(INPUT_IDS[k], 8) + b"\x00\x05\x02" + field(below, 4))
+        for rise in range(3):
+            if rise:
+                self.say(f"level {k + 1} 0")
+                self.say(f"level {k + 1} 1")
+            self.send(c, read)
+            self.send(c, b"\x05\x00\x01")
         self.say(f"collect {c} 4096")
 
     def scene_usage_alarm(self, c):

@@ -9,7 +9,7 @@ use Rattle.words.specs.Words.{fits, numberAt}
 use Rattle.steps.specs.Steps.{stepOf, firstOf, afterOf}
 use Rattle.framing.specs.Reading.{roomOf, runOf}
 use Rattle.rows.specs.Places.{inputAt, relayAt, lineAt, putInput, putRelay, putLine, onRows, queueOf}
-use Rattle.alarms.specs.Alarms.{alarmState, countAlarm, usageAlarm}
+use Rattle.alarms.specs.Alarms.{alarmState, alarmAbove, alarmAtOrAbove}
 use Rattle.changes.specs.Answers.{onInput, onRelay}
 use Rattle.changes.specs.Levels.{levelOf}
 use Rattle.edits.specs.Edits.{told, inputWritten}
@@ -74,7 +74,7 @@ unfolding lengthCases sizedRequest judgeRequest requestOf monitorSet put fits nu
 lengths = record { rows = refl }
 
 writes : Holds writeCases
-unfolding writeCases rows chunks inputAt relayAt putInput alarmState countAlarm usageAlarm onInput idOf firstWith deviceOf inputWritten writeInput
+unfolding writeCases rows chunks inputAt relayAt putInput alarmState alarmAbove alarmAtOrAbove onInput idOf firstWith deviceOf inputWritten writeInput
     fitsExactly judgeRead judgeWrite readOf writeOf inputsOf relaysOf inputRow monitorReply inputBlock readings.blockOf entryOf idsIn devicesReply
     deviceDone writtenFrom monitorSent collected put fits numberAt stepOf firstOf afterOf roomOf runOf lineAt putLine onRows orderOf openedLine marked
     connected obeyed servedContent servedMessage poweredUp halfAt putHalf bytesCall halvesAfter roomsAfter rowAfter queueOf

@@ -42,6 +42,10 @@ readsInput = sends (0x15 ∷ 0x00 ∷ 0x01 ∷ 0 ∷ 0 ∷ 0 ∷ 0 ∷ 0 ∷ 0 �
 abbrev pub writesInput : ℕ → List ℕ → Call served
 writesInput flags count = sends ((0x17 ∷ 0x00 ∷ 0x01 ∷ 0 ∷ 0 ∷ 0 ∷ 0 ∷ 0 ∷ 0 ∷ 0x01 ∷ 0xFF ∷ 0x00 ∷ 0x05 ∷ flags ∷ []) ++ count)
 
+-- the same with a count below 256, and nothing else of it
+abbrev pub countsTo : ℕ → Call served
+countsTo n = writesInput 2 (0 ∷ 0 ∷ 0 ∷ n ∷ [])
+
 -- a row of 31 records
 abbrev pub noPulses : List Pulse
 noPulses = replicate 31 (pulseOf 0 0 0)
@@ -82,7 +86,7 @@ pub record Row : Type 0 where
 abbrev pub row : List ℕ → List ℕ → Row
 row does owes = record { does = does; owes = owes }
 
--- THE STARRED CASES, in 01's order
+-- THE STARRED CASES, in 01's order; the last are two since 02, M-101
 -- 01, Edges, 2: a rise reaches the largest count, and stays there
 unfoldable pub countTop : List Row
 countTop =
@@ -130,13 +134,17 @@ abbrev pub resetAndWrite : List Row
 resetAndWrite =
     row (number [] (writesInput 3 (0 ∷ 0 ∷ 0 ∷ 7 ∷ [])) ∷ count (writesInput 3 (0 ∷ 0 ∷ 0 ∷ 7 ∷ []) ∷ []) ∷ []) (1 ∷ 7 ∷ []) ∷ []
 
--- 01, Edges, 10: a count at its setpoint and one above; the first count alarm is byte 24 of a read block's reply and byte 28 of a Monitor message
-abbrev pub setpointEdge : List Row
-setpointEdge =
-    row (replyByte (writesInput 2 (0 ∷ 0 ∷ 0 ∷ 100 ∷ []) ∷ []) readsInput 24 ∷ replyByte (writesInput 2 (0 ∷ 0 ∷ 0 ∷ 100 ∷ []) ∷ []) collects 28 ∷ [])
-    (0 ∷ 0 ∷ []) ∷
-    row (replyByte (writesInput 2 (0 ∷ 0 ∷ 0 ∷ 101 ∷ []) ∷ []) readsInput 24 ∷ replyByte (writesInput 2 (0 ∷ 0 ∷ 0 ∷ 101 ∷ []) ∷ []) collects 28 ∷ [])
-    (1 ∷ 1 ∷ []) ∷ []
+-- 01, Edges, 10, by 02, M-101, 4: in the Monitor message, whose byte 28 is the first count alarm, no alarm at 100, an alarm at 101
+abbrev pub setpointInMonitor : List Row
+setpointInMonitor =
+    row (replyByte (countsTo 100 ∷ []) collects 28 ∷ []) (0 ∷ []) ∷
+    row (replyByte (countsTo 101 ∷ []) collects 28 ∷ []) (1 ∷ []) ∷ []
+
+-- 01, Edges, 10, by 02, M-101, 4: in the read block, whose reply has the first count alarm as its byte 24, no alarm at 99, an alarm at 100
+abbrev pub setpointInBlock : List Row
+setpointInBlock =
+    row (replyByte (countsTo 99 ∷ []) readsInput 24 ∷ []) (0 ∷ []) ∷
+    row (replyByte (countsTo 100 ∷ []) readsInput 24 ∷ []) (1 ∷ []) ∷ []
 
 -- all of them; what is named here is computed by itself
 unfoldable pub blockCases : List Row
@@ -146,7 +154,7 @@ unfoldable pub lengthCases : List Row
 lengthCases = emptyContent ++ requestLengths
 
 unfoldable pub writeCases : List Row
-writeCases = resetAndWrite ++ setpointEdge
+writeCases = resetAndWrite ++ setpointInMonitor ++ setpointInBlock
 
 abbrev pub starredCases : List Row
 starredCases = countTop ++ toldAgain ++ blockCases ++ channelEdges ++ lengthCases ++ writeCases

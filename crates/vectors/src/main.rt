@@ -337,9 +337,10 @@ fn level(name: &[u8], board: &mut [[u64; 8]; ROWS], k: u8, v: u8) {
     shown(name, board, d);
 }
 
-fn power_up(board: &mut [[u64; 8]; ROWS]) {
+// Every input's first count setpoint is the one given; there is no other.
+fn power_up(board: &mut [[u64; 8]; ROWS], setpoint: u32) {
     let input = InputSettings {
-        setpointOne: 0,
+        setpointOne: setpoint,
         setpointTwo: 0,
         usageSetpoint: 0,
         alarm: false,
@@ -462,13 +463,82 @@ fn box_of_four() {
     let mut board = [[0u64; 8]; ROWS];
     let mut halves = [[0u64; 3]; 4];
     let mut rooms = [0u8; 4096];
-    power_up(&mut board);
+    power_up(&mut board, 0);
     opening(&mut board, &mut halves);
     mixing(&mut board, &mut halves, &mut rooms);
     refusing(&mut board, &mut halves, &mut rooms);
     collecting(&mut board, &mut halves, &mut rooms);
     closing(&mut board, &mut halves, &mut rooms);
     edges(&mut board, &mut halves, &mut rooms);
+}
+
+// ---- the count alarms of input 1 (02, M-101)
+
+// A frame that writes its count; then its two count alarms, as the read block and as the Monitor message show them.
+fn alarms(
+    name: &[u8],
+    board: &mut [[u64; 8]; ROWS],
+    halves: &mut [[u64; 3]; 4],
+    rooms: &mut [u8; 4096],
+    written: &[u8],
+) {
+    let mut reply = [0u8; 4096];
+    board::bytes(board, halves, rooms, 31, 0, written, &mut reply);
+    text(name);
+    board::bytes(
+        board,
+        halves,
+        rooms,
+        31,
+        0,
+        b"\x01\x00\x0b\xff\xff\x15\x00\x01\x00\x00\x00\x00\x00\x00\x01\xff",
+        &mut reply,
+    );
+    text(b": read block ");
+    number(reply[24] as usize);
+    number(reply[25] as usize);
+    board::bytes(
+        board,
+        halves,
+        rooms,
+        31,
+        0,
+        b"\x01\x00\x03\xff\xff\x05\x00\x01",
+        &mut reply,
+    );
+    text(b", Monitor ");
+    number(reply[28] as usize);
+    number(reply[29] as usize);
+    text(b"\n");
+}
+
+fn setpoint_of_100() {
+    let mut board = [[0u64; 8]; ROWS];
+    let mut halves = [[0u64; 3]; 4];
+    let mut rooms = [0u8; 4096];
+    power_up(&mut board, 100);
+    board::connect(&mut board, &mut halves, 0, 2);
+    alarms(
+        b"count 99",
+        &mut board,
+        &mut halves,
+        &mut rooms,
+        b"\x01\x00\x12\xff\xff\x17\x00\x01\x00\x00\x00\x00\x00\x00\x01\xff\x00\x05\x02\x00\x00\x00\x63",
+    );
+    alarms(
+        b"count 100",
+        &mut board,
+        &mut halves,
+        &mut rooms,
+        b"\x01\x00\x12\xff\xff\x17\x00\x01\x00\x00\x00\x00\x00\x00\x01\xff\x00\x05\x02\x00\x00\x00\x64",
+    );
+    alarms(
+        b"count 101",
+        &mut board,
+        &mut halves,
+        &mut rooms,
+        b"\x01\x00\x12\xff\xff\x17\x00\x01\x00\x00\x00\x00\x00\x00\x01\xff\x00\x05\x02\x00\x00\x00\x65",
+    );
 }
 
 fn main() {
@@ -480,4 +550,5 @@ fn main() {
     limits();
     streams();
     box_of_four();
+    setpoint_of_100();
 }
