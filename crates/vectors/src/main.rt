@@ -474,6 +474,15 @@ fn box_of_four() {
 
 // ---- the count alarms of input 1 (02, M-101)
 
+// An alarm's byte.
+fn alarm(v: u8) {
+    match v {
+        0 => text(b"0"),
+        1 => text(b"1"),
+        _ => text(b"?"),
+    }
+}
+
 // A frame that writes its count; then its two count alarms, as the read block and as the Monitor message show them.
 fn alarms(
     name: &[u8],
@@ -495,8 +504,8 @@ fn alarms(
         &mut reply,
     );
     text(b": read block ");
-    number(reply[24] as usize);
-    number(reply[25] as usize);
+    alarm(reply[24]);
+    alarm(reply[25]);
     board::bytes(
         board,
         halves,
@@ -507,8 +516,8 @@ fn alarms(
         &mut reply,
     );
     text(b", Monitor ");
-    number(reply[28] as usize);
-    number(reply[29] as usize);
+    alarm(reply[28]);
+    alarm(reply[29]);
     text(b"\n");
 }
 
