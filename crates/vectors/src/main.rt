@@ -483,6 +483,17 @@ fn alarm(v: u8) {
     }
 }
 
+// A frame of connection 0, and its reply.
+fn ask(
+    board: &mut [[u64; 8]; ROWS],
+    halves: &mut [[u64; 3]; 4],
+    rooms: &mut [u8; 4096],
+    bytes: &[u8],
+    reply: &mut [u8; 4096],
+) {
+    board::bytes(board, halves, rooms, 31, 0, bytes, reply);
+}
+
 // A frame that writes its count; then its two count alarms, as the read block and as the Monitor message show them.
 fn alarms(
     name: &[u8],
@@ -491,30 +502,16 @@ fn alarms(
     rooms: &mut [u8; 4096],
     written: &[u8],
 ) {
+    let read = b"\x01\x00\x0b\xff\xff\x15\x00\x01\x00\x00\x00\x00\x00\x00\x01\xff";
+    let monitor = b"\x01\x00\x03\xff\xff\x05\x00\x01";
     let mut reply = [0u8; 4096];
-    board::bytes(board, halves, rooms, 31, 0, written, &mut reply);
+    ask(board, halves, rooms, written, &mut reply);
+    ask(board, halves, rooms, read, &mut reply);
     text(name);
-    board::bytes(
-        board,
-        halves,
-        rooms,
-        31,
-        0,
-        b"\x01\x00\x0b\xff\xff\x15\x00\x01\x00\x00\x00\x00\x00\x00\x01\xff",
-        &mut reply,
-    );
     text(b": read block ");
     alarm(reply[24]);
     alarm(reply[25]);
-    board::bytes(
-        board,
-        halves,
-        rooms,
-        31,
-        0,
-        b"\x01\x00\x03\xff\xff\x05\x00\x01",
-        &mut reply,
-    );
+    ask(board, halves, rooms, monitor, &mut reply);
     text(b", Monitor ");
     alarm(reply[28]);
     alarm(reply[29]);
