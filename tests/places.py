@@ -100,7 +100,8 @@ def try_itself(trace):
     }
     blind = [what for what, page in tries.items() if not complaints("\n".join(page))]
     for text, right in (("-- 01, Events, 9: x", False), ("-- 01, Answer numbers, line 14: x", False), ("-- 01, Messages offered, 7: x", False),
-                        ("-- 01, Both sides, 1", False), ("-- 01, Messages, 5, 7", False), ("-- 02, M-100, 8", False), ("-- 02, M-101, 5", False), ("-- 02, M-102, 1", False),
+                        ("-- 01, Both sides, 1", False), ("-- 01, Messages, 5, 7", False), ("-- 02, M-100, 8", False),
+                        ("-- 02, M-101, 5", False), ("-- 02, M-199, 1", False),
                         ("-- 01, Messages, 23, 4 and 5, and Events, 8", True), ("-- 01, Frame, 1, 6, 13 and 14.", True),
                         ("-- so 01, Answer\n-- numbers, lines 6 and 7", True), ("-- 01, What the box holds, 7 and 9: y", True)):
         if bool(misnamed(text)) == right:

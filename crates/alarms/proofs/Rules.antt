@@ -1,5 +1,4 @@
 -- The two rules of the count alarms beside one another.
-use mathlib.Core.Bool.{true, false}
 use mathlib.Core.Path.{_≡_}
 use Prim.Native.Nat.{ℕ, _+_}
 use native.Mathlib.Omega.{arith}
