@@ -62,18 +62,19 @@ pub extern "C" fn wellacorn_pass_pulsed(board: &mut [[u64; 8]; ROWS], row: &[Pul
     pulses::answer_of(t)
 }
 
-// Connection c is opened at a rank.
+// Connection c is opened at a rank, strict or not.
 #[no_mangle]
 pub extern "C" fn wellacorn_connect(
     board: &mut [[u64; 8]; ROWS],
     halves: &mut [[u64; 3]; 4],
     c: u8,
     rank: u8,
+    strict: u8,
 ) -> Done
-    ensures { λ r. ⌜ Ends (connectCall c rank (now (board .entry))) (now (board .exit)) r ⌝ }
+    ensures { λ r. ⌜ Ends (connectCall c rank strict (now (board .entry))) (now (board .exit)) r ⌝ }
     ensures { λ r. ⌜ now (halves .exit) ≡ dropped c (r .answer) (now (halves .entry)) ⌝ }
 {
-    board::connect(board, halves, c, rank)
+    board::connect(board, halves, c, rank, strict)
 }
 
 // Connection c is closed.

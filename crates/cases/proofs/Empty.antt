@@ -1,4 +1,5 @@
--- The four empty versions do not meet demand 3 of the box, where connection 0 was opened at rank 2 at power-up: they are told by whole frames alone.
+-- The four empty versions do not meet demand 3 of the box, where connection 0 was opened at power-up at rank 2, not strict: they are told by
+-- whole frames alone.
 --     shut-out-refusing       refuses every frame
 --     shut-out-same-number    answers every frame with the same number
 --     shut-out-same-bytes     answers every frame with the same bytes
@@ -23,7 +24,7 @@ use Rattle.judges.specs.Judges.{onChannel, judgeCommand, sizedRequest, judgeReq
 use Rattle.orders.specs.Orders.{commandOf, orderOf, requestOf}
 use Rattle.rows.specs.Places.{relayAt, lineAt, putRelay, putLine, onRows, Board}
 use Rattle.ring.specs.declared.Pulse.{Pulse}
-use Rattle.connections.specs.Lines.{openedLine, connected}
+use Rattle.connections.specs.Lines.{openedLine, isStrict, connected}
 use Rattle.marks.specs.Marks.{markedRow, marked}
 use Rattle.serving.specs.Obeying.{obeyed}
 use Rattle.serving.specs.Serving.{servedContent, servedMessage}
@@ -64,28 +65,32 @@ clock-frame : OneFrame askClock
 unfolding messages cuts whole need
 clock-frame = record { begun = refl; whole = refl }
 
--- what each is owed, on any board on which connection 0 has rank 2
-module _ (p : Board) (h : lineAt 0 p .rank ≡ 2) where
+-- what each is owed, on any board on which connection 0 has rank 2 and is not strict
+module _ (p : Board) (h : lineAt 0 p .rank ≡ 2) (n : isStrict 0 p ≡ false) where
   toggle-reply : replyOf (servedMessage 0 (seen 1024 toggle) p) ≡ record { number = 1; sent = [] }
   unfolding seen servedMessage servedContent orderOf commandOf judgeCommand onChannel fits numberAt obeyed onRelay
-  toggle-reply = rw h
+  toggle-reply = rw (h, n)
 
   nine-number : servedMessage 0 (seen 1024 toggleNine) p .answer ≡ 11
   unfolding seen servedMessage servedContent orderOf commandOf judgeCommand onChannel fits numberAt obeyed
-  nine-number = rw h
+  nine-number = rw (h, n)
 
   clock-begins : getD (servedMessage 0 (seen 1024 askClock) p .reply) 0 0 ≡ 1
   unfolding seen servedMessage servedContent orderOf requestOf judgeRequest sizedRequest fits numberAt obeyed
-  clock-begins = rw h
+  clock-begins = rw (h, n)
 
--- AFTER THE OPENING connection 0 is open at rank 2, and relay 1 open; each toggle changes that
-first-line : lineAt 0 (connected 0 2 (poweredUp settings) .board) ≡ openedLine 2
+-- AFTER THE OPENING connection 0 is open at rank 2, not strict, and relay 1 open; each toggle changes that
+first-line : lineAt 0 (connected 0 2 0 (poweredUp settings) .board) ≡ openedLine 2 false
 unfolding lineAt putLine onRows poweredUp connected openedLine
 first-line = refl
 
-rank-two : lineAt 0 (connected 0 2 (poweredUp settings) .board) .rank ≡ 2
+rank-two : lineAt 0 (connected 0 2 0 (poweredUp settings) .board) .rank ≡ 2
 unfolding openedLine
 rank-two = ap (λ (l : Line). l .rank) first-line
+
+not-strict : isStrict 0 (connected 0 2 0 (poweredUp settings) .board) ≡ false
+unfolding openedLine
+not-strict = ap (λ (l : Line). l .strict) first-line
 
 abbrev closedOne : Tables → Bool
 closedOne t = relayAt 1 (t .board) .closed
@@ -124,7 +129,7 @@ module _ (row : List Pulse) (long : shortRow (length row) ≡ false) where
     first-reply m w = rw (ap (λ (y : Tables × Answer served). y .1) (whole-served served M x D [] 0 4096 m (w .whole) rest-none ready), up)
 
     toggle-first : shown (M .call x (bytes 0 4096 toggle) .1 .said) ≡ record { number = 1; sent = [] }
-    toggle-first = first-reply toggle toggle-frame ∙ toggle-reply (opened row .board) rank-two
+    toggle-first = first-reply toggle toggle-frame ∙ toggle-reply (opened row .board) rank-two not-strict
 
     pub shut-out-refusing : RefusesAll M x → ⊥
     shut-out-refusing R =
@@ -138,7 +143,7 @@ module _ (row : List Pulse) (long : shortRow (length row) ≡ false) where
           ap (λ (r : Reply). r .number) toggle-first,
           S 0 4096 toggleNine (record { taking = ready; frame = nine-frame }),
           ap (λ (r : Reply). r .number) (first-reply toggleNine nine-frame),
-          nine-number (opened row .board) rank-two,
+          nine-number (opened row .board) rank-two not-strict,
         )
 
     pub shut-out-same-bytes : (bs : List ℕ) → SameBytes M x bs → ⊥
@@ -147,7 +152,7 @@ module _ (row : List Pulse) (long : shortRow (length row) ≡ false) where
         let begins-one : getD bs 0 0 ≡ 1 =
         ap (λ (l : List ℕ). getD l 0 0)
         (sym (S 0 4096 askClock (record { taking = ready; frame = clock-frame })) ∙ ap (λ (r : Reply). r .sent) (first-reply askClock clock-frame))
-        ∙ clock-begins (opened row .board) rank-two in
+        ∙ clock-begins (opened row .board) rank-two not-strict in
         omega (arith, ap (λ (l : List ℕ). getD l 0 0) silent, begins-one)
 
     pub shut-out-waiting : Waiting served M x → ⊥
@@ -171,16 +176,16 @@ module _ (row : List Pulse) (long : shortRow (length row) ≡ false) where
         (rw first-done (box-steady .same-refusal (opened row) 0 (seen 1024 toggle) 0 4096 ∙ takes-bytes)) N
         (rw first-done (λ e. true≢false (sym (changes-once row) ∙ sym (ap (λ (y : Tables × Reply). closedOne (y .0)) e) ∙ changes-twice row)))
 
--- at power-up, connection 0 is opened at rank 2
+-- at power-up, connection 0 is opened at rank 2, not strict
 pub opens-so : (row : List Pulse) (M : Machine served) (x : M .State) → Meets served M x → M .tables x ≡ poweredTables settings row
-    → (let y : M .State = M .call x (other (connect 0 2)) .0 in Meets served M y × (M .tables y ≡ opened row))
-opens-so row M x D up = (meets-on served M x D (connect 0 2), reaches served M x D (other (connect 0 2) ∷ []) ∙ rw up)
+    → (let y : M .State = M .call x (other (connect 0 2 0)) .0 in Meets served M y × (M .tables y ≡ opened row))
+opens-so row M x D up = (meets-on served M x D (connect 0 2 0), reaches served M x D (other (connect 0 2 0) ∷ []) ∙ rw up)
 
 -- and so the box, whatever half-read messages and rooms it is lent
 pub meets-opened : (hs : Halves) (rooms : List ℕ) (row : List Pulse) → length hs ≡ 4 → length rooms ≡ 4096
-    → Meets served box (ends settings hs rooms row (other (connect 0 2) ∷ []))
+    → Meets served box (ends settings hs rooms row (other (connect 0 2 0) ∷ []))
 meets-opened hs rooms row four long =
-    meets-on served box (atPowerUp settings hs rooms row) (box-demand-3 settings hs rooms row four long) (connect 0 2)
+    meets-on served box (atPowerUp settings hs rooms row) (box-demand-3 settings hs rooms row four long) (connect 0 2 0)
 
 -- whatever a machine shows that the box does not: an answer number, a reply's bytes or length, bytes taken; or a count in its tables
 pub shut-out-inventing : (s : Settings) (hs : Halves) (rooms : List ℕ) (row : List Pulse) → length hs ≡ 4 → length rooms ≡ 4096

@@ -6,6 +6,7 @@ use Rattle.laws.specs.Put.{put, rows}
 use Rattle.laws.specs.Each.{anyBelow}
 use Rattle.laws.specs.Chunks.{chunks}
 use Rattle.words.specs.Words.{fits, numberAt}
+use Rattle.crc.specs.Crc.{bitStep, bitSteps, byteStep, crcFrom, crcOf}
 use Rattle.steps.specs.Steps.{stepOf, firstOf, afterOf}
 use Rattle.framing.specs.Reading.{roomOf, runOf}
 use Rattle.rows.specs.Places.{inputAt, relayAt, lineAt, putInput, putRelay, putLine, onRows, queueOf}
@@ -23,7 +24,7 @@ use Rattle.readings.specs.Readings as readings
 use Rattle.writers.specs.Writers.{inputsOf, relaysOf}
 use Rattle.readings.specs.Readings.{inputRow, monitorReply, inputBlock, entryOf, idsIn, devicesReply}
 use Rattle.writes.specs.Writes.{deviceDone, writtenFrom}
-use Rattle.connections.specs.Lines.{openedLine, connected}
+use Rattle.connections.specs.Lines.{openedLine, connected, closed}
 use Rattle.marks.specs.Marks.{markedRow, marked}
 use Rattle.plain.specs.Events.{leveled, monitorSent, collected}
 use Rattle.serving.specs.Obeying.{monitorSet, obeyed}
@@ -32,7 +33,7 @@ use Rattle.ring.specs.Ring.{rowAfter}
 use Rattle.powerup.specs.PowerUp.{poweredUp}
 use Rattle.halves.specs.Halves.{halfAt, putHalf}
 use Rattle.pieces.specs.Pieces.{bytesCall, halvesAfter, roomsAfter}
-use Rattle.cases.specs.Starred.{Row, countTop, toldAgain, blockCases, channelEdges, lengthCases, writeCases, starredCases}
+use Rattle.cases.specs.Starred.{Row, countTop, toldAgain, blockCases, channelEdges, lengthCases, writeCases, strictCases, starredCases}
 
 -- every row of them does what 01 owes
 record Holds (rs : List Row) : Type 0 where
@@ -80,5 +81,11 @@ unfolding writeCases rows chunks inputAt relayAt putInput alarmState alarmAbove 
     connected obeyed servedContent servedMessage poweredUp halfAt putHalf bytesCall halvesAfter roomsAfter rowAfter queueOf
 writes = record { rows = refl }
 
+strict : Holds strictCases
+unfolding strictCases bitStep bitSteps byteStep crcFrom crcOf anyBelow relayAt masked blockedRow blockOf ifSized judgeCommand commandOf relaysOf
+    markedRow put fits numberAt stepOf firstOf afterOf roomOf runOf lineAt putLine onRows orderOf openedLine marked connected closed obeyed
+    servedContent servedMessage poweredUp halfAt putHalf bytesCall halvesAfter roomsAfter rowAfter queueOf
+strict = record { rows = refl }
+
 pub starred : map (λ (r : Row). r .does) starredCases ≡ map (λ (r : Row). r .owes) starredCases
-starred = both (both (both (both (both count-top told-again) blocks) channels) lengths) writes .rows
+starred = both (both (both (both (both (both count-top told-again) blocks) channels) lengths) writes) strict .rows

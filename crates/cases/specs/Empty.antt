@@ -18,12 +18,12 @@ shown waits = refusing numbers.waiting
 shown (refused r) = r
 shown (did r) = r
 
--- the tables after power-up with the row of pulses that the host lends, and then with connection 0 opened at rank 2
+-- the tables after power-up with the row of pulses that the host lends, and then with connection 0 opened at rank 2, not strict
 abbrev pub poweredTables : Settings → List Pulse → Tables
 poweredTables s row = tables (poweredUp s) row
 
 abbrev pub opened : List Pulse → Tables
-opened row = served .happen (poweredTables settings row) (connect 0 2) .0
+opened row = served .happen (poweredTables settings row) (connect 0 2 0) .0
 
 -- what a machine in state x answers to a frame that it should serve
 module _ (M : Machine served) (x : M .State) where

@@ -85,7 +85,7 @@ uncountingCall x (other e) = boxCall x (other e)
 -- calls that tell it from the box: a fish is counted, then the clock is set to 1
 abbrev pub clocking : List (Call served)
 clocking =
-    other (connect 0 2) ∷ other (level 1 1) ∷
+    other (connect 0 2 0) ∷ other (level 1 1) ∷
     bytes 0 4096 (0x01 ∷ 0x00 ∷ 0x09 ∷ 0xFF ∷ 0xFF ∷ 0x07 ∷ 0 ∷ 0 ∷ 0 ∷ 0 ∷ 0 ∷ 0 ∷ 0 ∷ 1 ∷ []) ∷ []
 
 -- ---- lost: one half-read store for all (01, Mistakes, 1)
@@ -101,7 +101,7 @@ sharedCall x (other e) = boxCall x (other e)
 
 -- calls that tell it from the box: a frame begins on connection 0, then a keep-alive comes on connection 1
 abbrev pub crossing : List (Call served)
-crossing = other (connect 0 2) ∷ other (connect 1 2) ∷ bytes 0 4096 half ∷ bytes 1 4096 (0x06 ∷ []) ∷ []
+crossing = other (connect 0 2 0) ∷ other (connect 1 2 0) ∷ bytes 0 4096 half ∷ bytes 1 4096 (0x06 ∷ []) ∷ []
 
 -- ---- not among the lost: the sender's answer dropped
 
@@ -119,4 +119,4 @@ keepingCall x (other e) = (held (boxCall x (other e) .0 .board) (x .halves) (x .
 
 -- calls that tell it from the box: a frame begins, its connection is closed and opened again, then a keep-alive comes
 abbrev pub reopening : List (Call served)
-reopening = other (connect 0 2) ∷ bytes 0 4096 half ∷ other (close 0) ∷ other (connect 0 2) ∷ bytes 0 4096 (0x06 ∷ []) ∷ []
+reopening = other (connect 0 2 0) ∷ bytes 0 4096 half ∷ other (close 0) ∷ other (connect 0 2 0) ∷ bytes 0 4096 (0x06 ∷ []) ∷ []

@@ -10,15 +10,19 @@ use Rattle.ring.specs.Ring.{pulseOf}
 use Rattle.writers.specs.Writers.{relaysOf}
 use Rattle.powerup.specs.declared.Settings.{Settings}
 use Rattle.demand.specs.Demand.{Call, bytes, other}
-use Rattle.register.specs.Box.{level, connect, collect, Held, served, effectOf, ends}
+use Rattle.register.specs.Box.{level, connect, close, collect, Held, served, effectOf, ends}
 
 -- every input's first count setpoint is 100; no other setpoint and no alarm switch is set
 abbrev pub settings : Settings
 settings = record { inputs = replicate 8 (record { setpointOne = 100; setpointTwo = 0; usageSetpoint = 0; alarm = false }); relays = replicate 8 0 }
 
--- a whole frame with 0xFFFF on connection 0; the contents here are shorter than 256 bytes
+-- a whole frame with the two bytes of its checksum on connection 0; the contents here are shorter than 256 bytes
+abbrev pub sendsWith : ℕ → ℕ → List ℕ → Call served
+sendsWith high low content = bytes 0 4096 (0x01 ∷ 0x00 ∷ length content ∷ high ∷ low ∷ content)
+
+-- the same with 0xFFFF
 abbrev pub sends : List ℕ → Call served
-sends content = bytes 0 4096 (0x01 ∷ 0x00 ∷ length content ∷ 0xFF ∷ 0xFF ∷ content)
+sends content = sendsWith 0xFF 0xFF content
 
 -- input 1 told its level, and Monitor collected on connection 0
 abbrev pub told : ℕ → Call served
@@ -28,8 +32,11 @@ abbrev pub collects : Call served
 collects = other (collect 0 4096)
 
 -- 01, Messages, 10: a block, and a toggle
+abbrev pub block : ℕ → ℕ → List ℕ
+block mask state = 0x0A ∷ 0x0A ∷ mask ∷ state ∷ []
+
 abbrev pub blockWith : ℕ → ℕ → Call served
-blockWith mask state = sends (0x0A ∷ 0x0A ∷ mask ∷ state ∷ [])
+blockWith mask state = sends (block mask state)
 
 abbrev pub toggles : ℕ → Call served
 toggles channel = sends (0x0A ∷ 0x03 ∷ 0x00 ∷ channel ∷ [])
@@ -50,9 +57,13 @@ countsTo n = writesInput 2 (0 ∷ 0 ∷ 0 ∷ n ∷ [])
 abbrev pub noPulses : List Pulse
 noPulses = replicate 31 (pulseOf 0 0 0)
 
--- the box after power-up, connection 0 opened at rank 2, and these calls
+-- the box after power-up, connection 0 opened at rank 2, not strict, and these calls
 abbrev pub after : List (Call served) → Held
-after calls = ends settings (replicate 4 (replicate 3 0)) (replicate 4096 0) noPulses (other (connect 0 2) ∷ calls)
+after calls = ends settings (replicate 4 (replicate 3 0)) (replicate 4096 0) noPulses (other (connect 0 2 0) ∷ calls)
+
+-- 02, M-103, 2: connection 0 is closed and opened again, strict or not
+abbrev pub reopens : ℕ → List (Call served)
+reopens strict = other (close 0) ∷ other (connect 0 2 strict) ∷ []
 
 -- what is asked of it: input 1's count, the relays (lowest bit channel 1), and whether Monitor is due on connection 0 (1) or not (0)
 abbrev pub count : List (Call served) → ℕ
@@ -86,7 +97,7 @@ pub record Row : Type 0 where
 abbrev pub row : List ℕ → List ℕ → Row
 row does owes = record { does = does; owes = owes }
 
--- THE STARRED CASES, in 01's order; the last are two since 02, M-101
+-- THE STARRED CASES, in 01's order, whose last are two since 02, M-101; then those of strict connections
 -- 01, Edges, 2: a rise reaches the largest count, and stays there
 unfoldable pub countTop : List Row
 countTop =
@@ -146,6 +157,23 @@ setpointInBlock =
     row (replyByte (countsTo 99 ∷ []) readsInput 24 ∷ []) (0 ∷ []) ∷
     row (replyByte (countsTo 100 ∷ []) readsInput 24 ∷ []) (1 ∷ []) ∷ []
 
+-- 02, M-103, 2 and 3: relays 1 and 3 are to be closed with 0xFFFF, which is not the content's checksum: a strict connection refuses it with 7
+-- and closes neither, whatever byte but 0 made it strict; one that is not strict serves it, also where it was strict before it was closed
+abbrev pub unchecked : List Row
+unchecked =
+    row (number (reopens 1) (blockWith 5 5) ∷ relays (reopens 1 ++ blockWith 5 5 ∷ []) ∷ []) (7 ∷ 0 ∷ []) ∷
+    row (number (reopens 255) (blockWith 5 5) ∷ relays (reopens 255 ++ blockWith 5 5 ∷ []) ∷ []) (7 ∷ 0 ∷ []) ∷
+    row (number (reopens 0) (blockWith 5 5) ∷ relays (reopens 0 ++ blockWith 5 5 ∷ []) ∷ []) (1 ∷ 5 ∷ []) ∷
+    row (number (reopens 1 ++ reopens 0) (blockWith 5 5) ∷ relays (reopens 1 ++ reopens 0 ++ blockWith 5 5 ∷ []) ∷ []) (1 ∷ 5 ∷ []) ∷ []
+
+-- 02, M-103, 3: a strict connection serves the same content with its true checksum, 0x89E0, and one whose true checksum is 0xFFFF; its 7 comes
+-- before 8, so that no content with 0xFFFF, for which 0 would be true, is refused with 7
+abbrev pub checked : List Row
+checked =
+    row (number (reopens 1) (sendsWith 0x89 0xE0 (block 5 5)) ∷ relays (reopens 1 ++ sendsWith 0x89 0xE0 (block 5 5) ∷ []) ∷ []) (1 ∷ 5 ∷ []) ∷
+    row (number (reopens 1) (blockWith 0xD1 0xB2) ∷ relays (reopens 1 ++ blockWith 0xD1 0xB2 ∷ []) ∷ []) (1 ∷ 144 ∷ []) ∷
+    row (number (reopens 1) (sends []) ∷ []) (7 ∷ []) ∷ []
+
 -- all of them; what is named here is computed by itself
 unfoldable pub blockCases : List Row
 blockCases = maskedBlock ++ maskZero
@@ -156,5 +184,8 @@ lengthCases = emptyContent ++ requestLengths
 unfoldable pub writeCases : List Row
 writeCases = resetAndWrite ++ setpointInMonitor ++ setpointInBlock
 
+unfoldable pub strictCases : List Row
+strictCases = unchecked ++ checked
+
 abbrev pub starredCases : List Row
-starredCases = countTop ++ toldAgain ++ blockCases ++ channelEdges ++ lengthCases ++ writeCases
+starredCases = countTop ++ toldAgain ++ blockCases ++ channelEdges ++ lengthCases ++ writeCases ++ strictCases

@@ -1,10 +1,10 @@
-// The connections: which are open, and opening and closing one. It knows nothing of half-read messages. It takes every number, every rank and
-// every board, nonsense included.
+// The connections: which are open, which of them are strict, and opening and closing one. It knows nothing of half-read messages. It takes
+// every number, every rank and every board, nonsense included.
 
 ghost use mathlib.Core.Path.{_≡_};
 ghost use Rattle.rows.specs.Rows.{shutLine};
 ghost use Rattle.answers.specs.Calls.{Gives};
-ghost use Rattle.connections.specs.Lines.{openedLine, isOpen, connected, closed};
+ghost use Rattle.connections.specs.Lines.{openedLine, isOpen, isStrict, connected, closed};
 use answers::Served;
 use rows::Line;
 use rows::ROWS;
@@ -18,18 +18,20 @@ fn shut() -> Line
         rank: 0,
         monitor: false,
         due: false,
+        strict: false,
     }
 }
 
-// A connection that was opened at a rank.
-fn opened(rank: u64) -> Line
-    ensures { λ r. ⌜ r ≡ openedLine rank ⌝ }
+// A connection that was opened at a rank, strict or not.
+fn opened(rank: u64, strict: bool) -> Line
+    ensures { λ r. ⌜ r ≡ openedLine rank strict ⌝ }
 {
     Line {
         isOpen: true,
         rank,
         monitor: true,
         due: marks::has_rank(rank),
+        strict,
     }
 }
 
@@ -41,9 +43,17 @@ pub fn is_open(board: &[[u64; 8]; ROWS], c: u8) -> bool
     line.isOpen
 }
 
-// A connection is opened at a rank.
-pub fn connect(board: &mut [[u64; 8]; ROWS], c: u8, rank: u8) -> Served
-    ensures { λ r. ⌜ Gives (connected c rank (now (board .entry))) (now (board .exit)) r ⌝ }
+// Whether c is a connection that was opened as strict.
+pub fn is_strict(board: &[[u64; 8]; ROWS], c: u8) -> bool
+    ensures { λ r. ⌜ r ≡ isStrict c (now (board .entry)) ⌝ }
+{
+    let line = rows::line_at(board, c as usize);
+    line.strict
+}
+
+// A connection is opened at a rank; strict is 0 for one that is not strict, and anything else for one that is.
+pub fn connect(board: &mut [[u64; 8]; ROWS], c: u8, rank: u8, strict: u8) -> Served
+    ensures { λ r. ⌜ Gives (connected c rank strict (now (board .entry))) (now (board .exit)) r ⌝ }
 {
     if 4 <= c {
         return answers::no_reply(numbers::NO_CONNECTION);
@@ -54,7 +64,7 @@ pub fn connect(board: &mut [[u64; 8]; ROWS], c: u8, rank: u8) -> Served
     if 2 < rank {
         return answers::no_reply(numbers::BAD_RANK);
     }
-    rows::put_line(board, c as usize, opened(rank as u64));
+    rows::put_line(board, c as usize, opened(rank as u64, strict != 0));
     answers::no_reply(numbers::SERVED)
 }
 

@@ -6,6 +6,6 @@ use Rattle.connections.specs.Lines.{connected}
 use Rattle.powerup.specs.PowerUp.{blankSettings, poweredUp}
 use Rattle.board.specs.Calls.{connectCall}
 
-pub opened : connectCall 0 2 (poweredUp (record { inputs = replicate 8 blankSettings; relays = replicate 8 0 })) .did .answer ≡ 1
+pub opened : connectCall 0 2 0 (poweredUp (record { inputs = replicate 8 blankSettings; relays = replicate 8 0 })) .did .answer ≡ 1
 unfolding connectCall connected poweredUp onRows lineAt
 opened = refl

@@ -26,9 +26,9 @@ unfoldable pub linesOf : List ℕ → List (List ℕ)
 linesOf [] = []
 linesOf (b ∷ bs) = cond (eqb b 10) ([] ∷ linesOf bs) (onFirst b (linesOf bs))
 
--- 01, Console, 1: connection 0 is open, at rank 2; nothing is set at power-up
+-- 01, Console, 1: connection 0 is open, at rank 2, and not strict (02, M-103, 2); nothing is set at power-up
 unfoldable pub started : Board
-started = connectCall 0 2 (poweredUp (record { inputs = replicate 8 blankSettings; relays = replicate 8 0 })) .did .board
+started = connectCall 0 2 0 (poweredUp (record { inputs = replicate 8 blankSettings; relays = replicate 8 0 })) .did .board
 
 -- the words that were lent, with nothing half read on connection 0: an opening is fresh (01, Events, 3)
 unfoldable pub startedHalves : Halves → Halves

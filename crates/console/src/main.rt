@@ -201,7 +201,7 @@ fn digits(answer: u8, relays: u8) -> [u8; 5]
 
 // ---- the box
 
-// The box at power-up with nothing set, and connection 0 open at rank 2.
+// The box at power-up with nothing set, and connection 0 open at rank 2, not strict.
 fn start(board: &mut [[u64; 8]; ROWS], halves: &mut [[u64; 3]; 4])
     ensures { λ _. ⌜ now (board .exit) ≡ started ⌝ }
     ensures { λ _. ⌜ now (halves .exit) ≡ startedHalves (now (halves .entry)) ⌝ }
@@ -215,7 +215,7 @@ fn start(board: &mut [[u64; 8]; ROWS], halves: &mut [[u64; 3]; 4])
     let inputs = [nothing; 8];
     let relays = [0u64; 8];
     powerup::power_up(board, Settings { inputs, relays });
-    board::connect(board, halves, 0, 2);
+    board::connect(board, halves, 0, 2, 0);
 }
 
 // ---- lines out of the input

@@ -7,9 +7,9 @@ use Rattle.rows.specs.declared.Line.{Line}
 use Rattle.rows.specs.Rows.{lineIn, lineWords}
 use Rattle.rows.specs.Places.{Board, onRows, firstLine}
 
--- 01, What the box holds, 4: a connection by its parts
-abbrev pub lineOf : Bool → ℕ → Bool → Bool → Line
-lineOf isOpen rank monitor due = record { isOpen = isOpen; rank = rank; monitor = monitor; due = due }
+-- 01, What the box holds, 4, and 02, M-103, 2: a connection by its parts
+abbrev pub lineOf : Bool → ℕ → Bool → Bool → Bool → Line
+lineOf isOpen rank monitor due strict = record { isOpen = isOpen; rank = rank; monitor = monitor; due = due; strict = strict }
 
 -- 01, Events, 3: user and administrator, the ranks that Monitor is due to
 abbrev pub hasRank : ℕ → Bool
@@ -17,7 +17,11 @@ hasRank rank = leb 1 rank && leb rank 2
 
 -- a connection with the mark set or cleared
 abbrev pub withDue : Bool → Line → Line
-withDue due l = lineOf (l .isOpen) (l .rank) (l .monitor) due
+withDue due l = lineOf (l .isOpen) (l .rank) (l .monitor) due (l .strict)
+
+-- a connection with Monitor on or off
+abbrev pub withMonitor : Bool → Line → Line
+withMonitor on l = lineOf (l .isOpen) (l .rank) on (l .due) (l .strict)
 
 -- 01, Events, 6: a connection that a change is due to: it is open, has one of these ranks, and Monitor is on
 abbrev pub watches : Line → Bool

@@ -1,6 +1,6 @@
 -- How what the bytes of a piece came to is answered: by its number, or by the judgement of the message that ended.
 use mathlib.Core.Path.{_≡_, refl, ap, sym, _∙_}
-use mathlib.Core.Bool.{true, false}
+use mathlib.Core.Bool.{Bool, true}
 use mathlib.Core.List.{List}
 use mathlib.Core.Option.{some}
 use Prim.Native.Nat.{ℕ, _≤_}
@@ -21,7 +21,7 @@ use Rattle.frames.specs.declared.Judged.the-variants.{TooLong, Whole}
 use Rattle.frames.specs.Judge.{judgeOf, refusalOf}
 use Rattle.rows.specs.Places.{Board}
 use Rattle.answers.specs.declared.Served.{Served}
-use Rattle.connections.specs.Lines.{isOpen}
+use Rattle.connections.specs.Lines.{isOpen, isStrict}
 use Rattle.answers.specs.Calls.{Did, servedOf, Does, refused}
 use Rattle.serving.specs.Serving.{servedContent, servedCall, unlessRefused, servedMessage}
 use Rattle.halves.specs.Halves.{Halves, halfAt}
@@ -41,17 +41,23 @@ alone {o = o} e g = record { board = rw e; gives = g ∙ rw e; leaves = rw e (sy
 
 -- ---- a message that has ended
 
+-- it is judged by the strictness that was read off the board
+pub judged-by : (len sum : ℕ) (room : List ℕ) {read strict : Bool} {j k : Judged} → j ≡ judgeOf len sum room read → read ≡ strict → j ≡ k
+    → judgeOf len sum room strict ≡ k
+judged-by len sum room e f g = ap (judgeOf len sum room) (sym f) ∙ sym e ∙ g
+
 -- one that is judged whole lies in the room
-pub whole-fits : (len sum : ℕ) (room : List ℕ) → judgeOf len sum room false ≡ Whole → len ≤ length room
+pub whole-fits : (len sum : ℕ) (room : List ℕ) (strict : Bool) → judgeOf len sum room strict ≡ Whole → len ≤ length room
 unfolding judgeOf
-whole-fits len sum room e =
+whole-fits len sum room strict e =
     by-cases (ltb (length room) len)
     (λ q. let y : TooLong ≡ Whole = rw q at e in let z : _≡_ {A = ℕ} 0 1 = cc in absurd (omega arith))
     (λ q. ltb-false (length room) len q)
 
 module _ (len sum : ℕ) (room : List ℕ) (c : ℕ) (p : Board) where
-  -- it is refused with the number of its judgement, or its content is served
-  pub judged-as : answered c (gotOf room (Message len sum)) p ≡ unlessRefused (refusalOf (judgeOf len sum room false)) (servedContent c (take len room) p) p
+  -- it is refused with the number of its judgement, which goes by the connection's strictness, or its content is served
+  pub judged-as : answered c (gotOf room (Message len sum)) p
+      ≡ unlessRefused (refusalOf (judgeOf len sum room (isStrict c p))) (servedContent c (take len room) p) p
   unfolding judgeOf servedMessage
   judged-as =
       by-cases (ltb (length room) len)
@@ -59,7 +65,7 @@ module _ (len sum : ℕ) (room : List ℕ) (c : ℕ) (p : Board) where
       (λ q. rw (q, le-leb len (length room) (ltb-false (length room) len q)))
 
   -- so where its judgement has a number, that is the answer
-  pub refused-so : {j : Judged} {n : ℕ} {o : List ℕ} {r : Served} → judgeOf len sum room false ≡ j → refusalOf j ≡ some n → r ≡ servedOf n 0
+  pub refused-so : {j : Judged} {n : ℕ} {o : List ℕ} {r : Served} → judgeOf len sum room (isStrict c p) ≡ j → refusalOf j ≡ some n → r ≡ servedOf n 0
       → Does (answered c (gotOf room (Message len sum)) p) p o o r
   refused-so told number g = alone (judged-as ∙ rw (told, number)) g
 

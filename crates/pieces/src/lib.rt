@@ -53,7 +53,7 @@ fn judge_message(
     ensures { λ r. ⌜ Does (answered c (gotOf (now (room .entry)) (Outcome.Message len sum)) (now (board .entry))) (now (board .exit)) (now (reply .entry)) (now (reply .exit)) r ⌝ }
 {
     let n = len as usize;
-    let j = frames::judge(len, sum, room, false);
+    let j = frames::judge(len, sum, room, connections::is_strict(board, c));
     match j {
         Judged::Whole => serving::serve(board, c, &room[..n], reply),
         Judged::TooLong => answers::no_reply(numbers::TOO_LONG),

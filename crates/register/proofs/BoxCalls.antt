@@ -1,5 +1,5 @@
 -- The box's calls, each by itself: what a piece comes to, and what openings and closings do to each connection.
-use mathlib.Core.Path.{_≡_, refl, sym, _∙_}
+use mathlib.Core.Path.{_≡_, refl, sym, ap, _∙_}
 use mathlib.Core.Bool.{Bool, true, false, true≢false, cond, _||_}
 use mathlib.Core.List.{List, [], _∷_}
 use mathlib.Core.Option.{Option, none, some}
@@ -15,12 +15,13 @@ use Rattle.steps.specs.Cut.{Got}
 use Rattle.steps.specs.Steps.{start, halfAfter}
 use Rattle.framing.specs.Reading.{gotOf}
 use Rattle.framing.proofs.Turns.{length-run}
+use Rattle.rows.specs.declared.Line.{Line}
 use Rattle.rows.specs.Rows.{lineIn, lineWords, shutLine}
 use Rattle.rows.specs.Places.{Board, isConnection, rowAt, lineAt, putLine, linePlace, queueOf}
 use Rattle.ring.specs.declared.Pulse.{Pulse}
 use Rattle.pulses.specs.Pulses.{shortRow}
 use Rattle.ring.specs.Ring.{rowAfter}
-use Rattle.connections.specs.Lines.{openedLine, isOpen, connected, closed}
+use Rattle.connections.specs.Lines.{isOpen, connected, closed}
 use Rattle.plain.specs.Events.{tooShort}
 use Rattle.halves.specs.Halves.{Halves, halfAt, putHalf, dropped}
 use Rattle.halves.specs.Rooms.{roomAt, putRoom}
@@ -94,16 +95,16 @@ module _ (c room records : ℕ) (piece : List ℕ) (b : Board) (hs : Halves) (ro
       (λ v. room-apart d c (fed c piece hs rooms .room) rooms room-short n)
 
 -- OPENINGS AND CLOSINGS
-shut-is-shut : (c : ℕ) (b : Board) → isOpen c (putLine c shutLine b) ≡ false
+shut-is-shut : (c : ℕ) (b : Board) → lineAt c (putLine c shutLine b) ≡ shutLine
 unfolding lineAt putLine
 shut-is-shut c b = go (isConnection c)
   where
-    again : (b : Board) (i : ℕ) → lineIn (rowAt i (set b i (lineWords shutLine))) .isOpen ≡ false
+    again : (b : Board) (i : ℕ) → lineIn (rowAt i (set b i (lineWords shutLine))) ≡ shutLine
     again [] i = refl
     again (row ∷ b) zero = refl
     again (row ∷ b) (suc i) = again b i
 
-    go : (t : Bool) → cond t (lineIn (rowAt (linePlace c) (cond t (set b (linePlace c) (lineWords shutLine)) b))) shutLine .isOpen ≡ false
+    go : (t : Bool) → cond t (lineIn (rowAt (linePlace c) (cond t (set b (linePlace c) (lineWords shutLine)) b))) shutLine ≡ shutLine
     go true = again b (linePlace c)
     go false = refl
 
@@ -130,20 +131,20 @@ left-refused nobody answer hs h = refl
 left-refused (dropping c) answer hs h = rw (ne-eqb answer 1 (λ q. omega arith))
 left-refused (keeping c) answer hs h = refl
 
-module _ (c rank : ℕ) (p : Board) where
+module _ (c rank strict : ℕ) (p : Board) where
   -- another connection is as it was
-  pub connect-apart : (d : ℕ) → eqb d c ≡ false → lineAt d (connected c rank p .board) ≡ lineAt d p
-  connect-apart d n = connect-cases c p rank (λ a. lineAt d (a .board) ≡ lineAt d p) refl refl refl (λ u. line-apart c d (openedLine rank) p n)
+  pub connect-apart : (d : ℕ) → eqb d c ≡ false → lineAt d (connected c rank strict p .board) ≡ lineAt d p
+  connect-apart d n = connect-cases c p rank strict (λ a. lineAt d (a .board) ≡ lineAt d p) refl refl refl (λ u. line-apart c d _ p n)
 
   -- one that is open is not opened again, and keeps what it has read
-  pub connect-keeps : (hs : Halves) → isOpen c p ≡ true → dropped c (connected c rank p .answer) hs ≡ hs
-  connect-keeps hs u = connect-cases c p rank (λ d. dropped c (d .answer) hs ≡ hs) refl refl refl (λ v. absurd (true≢false (sym u ∙ v)))
+  pub connect-keeps : (hs : Halves) → isOpen c p ≡ true → dropped c (connected c rank strict p .answer) hs ≡ hs
+  connect-keeps hs u = connect-cases c p rank strict (λ d. dropped c (d .answer) hs ≡ hs) refl refl refl (λ v. absurd (true≢false (sym u ∙ v)))
 
   -- one that is opened begins anew
-  pub connect-starts : (hs : Halves) → isOpen c p ≡ false → isOpen c (connected c rank p .board) ≡ true
-      → halfAt c (dropped c (connected c rank p .answer) hs) ≡ start
+  pub connect-starts : (hs : Halves) → isOpen c p ≡ false → isOpen c (connected c rank strict p .board) ≡ true
+      → halfAt c (dropped c (connected c rank strict p .answer) hs) ≡ start
   connect-starts hs u =
-      connect-cases c p rank (λ d. isOpen c (d .board) ≡ true → halfAt c (dropped c (d .answer) hs) ≡ start)
+      connect-cases c p rank strict (λ d. isOpen c (d .board) ≡ true → halfAt c (dropped c (d .answer) hs) ≡ start)
       (λ v. absurd (true≢false (sym v ∙ u))) (λ v. absurd (true≢false (sym v ∙ u))) (λ v. absurd (true≢false (sym v ∙ u))) (λ u′ v. half-dropped c hs)
 
 module _ (c : ℕ) (p : Board) where
@@ -151,7 +152,12 @@ module _ (c : ℕ) (p : Board) where
   pub close-apart : (d : ℕ) → eqb d c ≡ false → lineAt d (closed c p .board) ≡ lineAt d p
   close-apart d n = close-cases c p (λ a. lineAt d (a .board) ≡ lineAt d p) refl (λ u. line-apart c d shutLine p n)
 
+  -- one that is closed is all zero
+  pub close-clears : isOpen c p ≡ true → lineAt c (closed c p .board) ≡ shutLine
+  unfolding closed
+  close-clears u = rw u (shut-is-shut c p)
+
   -- a connection that is told to close is shut, whatever it was
   pub close-shuts : isOpen c (closed c p .board) ≡ false
   unfolding closed
-  close-shuts = by-cases (isOpen c p) (λ u. rw u (shut-is-shut c p)) (λ u. rw u u)
+  close-shuts = by-cases (isOpen c p) (λ u. ap (λ (l : Line). l .isOpen) (close-clears u)) (λ u. rw u u)

@@ -110,14 +110,14 @@ unfolding passCall
 contract-pass d row b b′ r p hs rooms = rw (p .gives, p .board, unread (timePassed d row b) (time-silent d row b))
 
 pub contract-connect : (κs : _) (a : _) (r : _) (s : _) → connect.Post κs a r s → (rooms : List ℕ) (row : List Pulse)
-    → boxCall (held (now (a .0)) (now (a .1 .0)) rooms row) (calls.other (box.connect (a .1 .1 .0) (a .1 .1 .1 .0)))
+    → boxCall (held (now (a .0)) (now (a .1 .0)) rooms row) (calls.other (box.connect (a .1 .1 .0) (a .1 .1 .1 .0) (a .1 .1 .1 .1 .0)))
     ≡ stepOf (now (s .0)) (now (s .1 .0)) rooms row r (calls.did (readOf r []))
 unfolding connectCall
 contract-connect κs a r s p rooms row =
     let b : Board = now (a .0) in
-    let silent : connected (a .1 .1 .0) (a .1 .1 .1 .0) b .reply ≡ [] =
-    connect-cases (a .1 .1 .0) b (a .1 .1 .1 .0) (λ d. d .reply ≡ []) refl refl refl (λ u. refl) in
-    rw (p .1, p .0 .gives, p .0 .board, unread (connected (a .1 .1 .0) (a .1 .1 .1 .0) b) silent)
+    let silent : connected (a .1 .1 .0) (a .1 .1 .1 .0) (a .1 .1 .1 .1 .0) b .reply ≡ [] =
+    connect-cases (a .1 .1 .0) b (a .1 .1 .1 .0) (a .1 .1 .1 .1 .0) (λ d. d .reply ≡ []) refl refl refl (λ u. refl) in
+    rw (p .1, p .0 .gives, p .0 .board, unread (connected (a .1 .1 .0) (a .1 .1 .1 .0) (a .1 .1 .1 .1 .0) b) silent)
 
 pub contract-close : (κs : _) (a : _) (r : _) (s : _) → close.Post κs a r s → (rooms : List ℕ) (row : List Pulse)
     → boxCall (held (now (a .0)) (now (a .1 .0)) rooms row) (calls.other (box.close (a .1 .1 .0)))

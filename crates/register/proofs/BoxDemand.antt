@@ -30,7 +30,7 @@ use Rattle.demand.proofs.Following.{determined, drains}
 use Rattle.demand.proofs.Apart.{apart, untaken-unseen}
 use Rattle.demand.proofs.Pouring.{cut-anywhere}
 use Rattle.register.specs.Box.{served, tables, Held, tablesOf, box, atPowerUp, refusalOf, ends, run, onlooker}
-use Rattle.register.proofs.Touching.{message-touches}
+use Rattle.register.proofs.Touching.{as-open, message-touches}
 use Rattle.register.proofs.BoxCalls.{row-long}
 use Rattle.register.proofs.BoxLawful.{Sound, only-open, box-meets}
 
@@ -56,8 +56,9 @@ pub box-steady : Steady served
 box-steady =
     record {
       only-open = only-open;
-      same-open = λ t c g d. message-touches c g (t .board) .as-open d;
-      same-refusal = λ t c g d room. rw (message-touches c g (t .board) .as-open d, row-long (t .board) (servedMessage c g (t .board) .board) (t .row));
+      same-open = λ t c g d. as-open (message-touches c g (t .board) .as-opened) d;
+      same-refusal =
+          λ t c g d room. rw (as-open (message-touches c g (t .board) .as-opened) d, row-long (t .board) (servedMessage c g (t .board) .board) (t .row));
     }
 
 module _ (s : Settings) (hs : Halves) (rooms : List ℕ) (row : List Pulse) (four : length hs ≡ 4) (long : length rooms ≡ 4096) where

@@ -32,7 +32,7 @@ use Rattle.demand.specs.Lawful as lawful-spec
 use Rattle.demand.specs.Lawful.{Lawful, outside}
 use Rattle.demand.proofs.Meeting.{demand-3}
 use Rattle.register.specs.Box.{Event, level, pass, connect, close, collect, Reply, replyOf, refusing, Tables, refusalOf, happens, on, tablesAfter, served, Held, held, tablesOf, saying, boxCall, box}
-use Rattle.register.proofs.Touching.{unmarked-open, level-event, pass-event, collect-touches}
+use Rattle.register.proofs.Touching.{as-open, unmarked-settled, level-event, pass-event, collect-touches}
 use Rattle.register.proofs.Numbers.{Answering, message-judged, judged-answers}
 use Rattle.register.proofs.BoxCalls.{row-same, ready, feeds-effect, feeds-halves, feeds-rooms, bytes-touches, bytes-halves, bytes-rooms, bytes-half-apart, bytes-room-apart, dropped-apart, left-length, connect-apart, connect-keeps, connect-starts, close-shuts, close-apart}
 
@@ -119,10 +119,11 @@ Keeps x k c = (halfAt c (after x k .halves) ≡ halfAt c (x .halves)) × (roomAt
 keeps-event : (x : Held) (e : Event) (c : ℕ) → openAt x c ≡ true → openAt (after x (other e)) c ≡ true → Keeps x (other e) c
 keeps-event x (level k v) c u w = (refl, refl)
 keeps-event x (pass d) c u w = (refl, refl)
-keeps-event x (connect d rank) c u w = by-cases (eqb c d) same (λ n. (dropped-apart d c (connected d rank (x .board) .answer) (x .halves) n, refl))
+keeps-event x (connect d rank strict) c u w =
+    by-cases (eqb c d) same (λ n. (dropped-apart d c (connected d rank strict (x .board) .answer) (x .halves) n, refl))
   where
-    same : eqb c d ≡ true → Keeps x (other (connect d rank)) c
-    same q = (rw (connect-keeps d rank (x .board) (x .halves) (rw (eqb-true c d q) at u)), refl)
+    same : eqb c d ≡ true → Keeps x (other (connect d rank strict)) c
+    same q = (rw (connect-keeps d rank strict (x .board) (x .halves) (rw (eqb-true c d q) at u)), refl)
 keeps-event x (close d) c u w = by-cases (eqb c d) same (λ n. (dropped-apart d c (closed d (x .board) .answer) (x .halves) n, refl))
   where
     same : eqb c d ≡ true → Keeps x (other (close d)) c
@@ -138,21 +139,23 @@ keeps x (other e) c n u w = keeps-event x e c u w
 
 -- one that is opened begins anew; nothing but an opening opens one
 opens-event : (x : Held) (e : Event) (c : ℕ) → openAt x c ≡ false → openAt (after x (other e)) c ≡ true → halfAt c (after x (other e) .halves) ≡ start
-opens-event x (level k v) c u w = absurd (true≢false (sym w ∙ unmarked-open (level-event k v (x .board)) c ∙ u))
-opens-event x (pass d) c u w = absurd (true≢false (sym w ∙ unmarked-open (pass-event d (x .row) (x .board)) c ∙ u))
-opens-event x (connect d rank) c u w = by-cases (eqb c d) same
-    (λ n. absurd (true≢false (sym w ∙ ap (λ (l : Line). l .isOpen) (connect-apart d rank (x .board) c n) ∙ u)))
+opens-event x (level k v) c u w = absurd (true≢false (sym w ∙ as-open (unmarked-settled (level-event k v (x .board))) c ∙ u))
+opens-event x (pass d) c u w = absurd (true≢false (sym w ∙ as-open (unmarked-settled (pass-event d (x .row) (x .board))) c ∙ u))
+opens-event x (connect d rank strict) c u w = by-cases (eqb c d) same
+    (λ n. absurd (true≢false (sym w ∙ ap (λ (l : Line). l .isOpen) (connect-apart d rank strict (x .board) c n) ∙ u)))
   where
-    same : eqb c d ≡ true → halfAt c (after x (other (connect d rank)) .halves) ≡ start
-    same q = rw (eqb-true c d q) (connect-starts d rank (x .board) (x .halves) (rw (eqb-true c d q) at u) (rw (eqb-true c d q) at w))
+    same : eqb c d ≡ true → halfAt c (after x (other (connect d rank strict)) .halves) ≡ start
+    same q = rw (eqb-true c d q) (connect-starts d rank strict (x .board) (x .halves) (rw (eqb-true c d q) at u) (rw (eqb-true c d q) at w))
 opens-event x (close d) c u w = by-cases (eqb c d) same (λ n. absurd (true≢false (sym w ∙ ap (λ (l : Line). l .isOpen) (close-apart d (x .board) c n) ∙ u)))
   where
     same : eqb c d ≡ true → halfAt c (after x (other (close d)) .halves) ≡ start
     same q = absurd (true≢false (sym (rw (eqb-true c d q) at w) ∙ close-shuts d (x .board)))
-opens-event x (collect d room) c u w = absurd (true≢false (sym w ∙ collect-touches d room (x .board) .as-open c ∙ u))
+opens-event x (collect d room) c u w = absurd (true≢false (sym w ∙ as-open (collect-touches d room (x .board) .as-opened) c ∙ u))
 
 opens : (x : Held) (k : Call served) (c : ℕ) → openAt x c ≡ false → openAt (after x k) c ≡ true → halfAt c (after x k .halves) ≡ start
-opens x (bytes d room p) c u w = absurd (true≢false (sym w ∙ bytes-touches d room (length (x .row)) p (x .board) (x .halves) (x .rooms) .as-open c ∙ u))
+opens x (bytes d room p) c u w =
+    let touched = bytes-touches d room (length (x .row)) p (x .board) (x .halves) (x .rooms) in
+    absurd (true≢false (sym w ∙ as-open (touched .as-opened) c ∙ u))
 opens x (other e) c u w = opens-event x e c u w
 
 pub lawful : Lawful served box

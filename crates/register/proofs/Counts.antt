@@ -37,7 +37,6 @@ use Rattle.ring.specs.declared.Pulse.{Pulse}
 use Rattle.pulses.specs.Pulses.{shortRow}
 use Rattle.ring.specs.Ring.{pulseOf, relayPulse, isFull}
 use Rattle.pulses.proofs.Keeping.{Keeps, elapsed-keeps, accepted-keeps}
-use Rattle.connections.specs.Lines.{openedLine}
 use Rattle.marks.specs.Marks.{watches, markedRow, marked}
 use Rattle.plain.specs.Events.{leveled, timePassed, monitorSent}
 use Rattle.serving.specs.Obeying.{monitorSet, clockTold, pulsed, obeyed}
@@ -228,7 +227,7 @@ unfolding leveled timePassed monitorSent
 event-fits (level k v) t f = marks-fit (levelOf k v (t .board) .board) (level-fits (t .board) f k v) (levelOf k v (t .board) .changed)
 event-fits (pass d) t f =
     by-cases (shortRow (length (t .row))) (λ s. rw s f) (λ s. rw s (elapsed-keeps pulses-fit (t .row) d (t .board) f))
-event-fits (connect c rank) t f = connect-cases c (t .board) rank (λ d. Fit (d .board)) f f f (λ u. line-fits (t .board) f c (openedLine rank))
+event-fits (connect c rank strict) t f = connect-cases c (t .board) rank strict (λ d. Fit (d .board)) f f f (λ u. line-fits (t .board) f c _)
 event-fits (close c) t f = close-cases c (t .board) (λ d. Fit (d .board)) f (λ u. line-fits (t .board) f c shutLine)
 event-fits (collect c room) t f = collect-cases c (t .board) room (λ d. Fit (d .board)) f f f (λ v. line-fits (t .board) f c _)
 

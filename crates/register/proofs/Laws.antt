@@ -115,8 +115,8 @@ module _ (p : Board) where
   judged-so d (serves e) h = absurd (omega arith)
   judged-so d (refuses n a) h = refl
 
-  connect-so : (c rank : ℕ) → RefusedSo p (connected c rank p)
-  connect-so c rank = connect-cases c p rank (RefusedSo p) (λ h. refl) (λ h. refl) (λ h. refl) (λ u h. absurd (omega arith))
+  connect-so : (c rank strict : ℕ) → RefusedSo p (connected c rank strict p)
+  connect-so c rank strict = connect-cases c p rank strict (RefusedSo p) (λ h. refl) (λ h. refl) (λ h. refl) (λ u h. absurd (omega arith))
 
   close-so : (c : ℕ) → RefusedSo p (closed c p)
   close-so c = close-cases c p (RefusedSo p) (λ h. refl) (λ u h. absurd (omega arith))
@@ -140,7 +140,7 @@ pass-so d row p = go (shortRow (length row))
 event-so : (e : Event) (t : Tables) → RefusedSo (t .board) (happens e t)
 event-so (level k v) t = judged-so (t .board) (leveled k v (t .board)) (level-judged (t .board) k v)
 event-so (pass d) t = pass-so d (t .row) (t .board)
-event-so (connect c rank) t = connect-so (t .board) c rank
+event-so (connect c rank strict) t = connect-so (t .board) c rank strict
 event-so (close c) t = close-so (t .board) c
 event-so (collect c room) t = collect-so (t .board) c room
 
@@ -196,6 +196,6 @@ others-kept x (other e) d n =
         → withDue false (lineAt d (happens e (tablesOf x) .board)) ≡ withDue false (lineAt d (x .board))
     line-of (level k v) n = level-event k v (x .board) .at d
     line-of (pass m) n = pass-event m (x .row) (x .board) .at d
-    line-of (connect c rank) n = ap (withDue false) (connect-apart c rank (x .board) d n)
+    line-of (connect c rank strict) n = ap (withDue false) (connect-apart c rank strict (x .board) d n)
     line-of (close c) n = ap (withDue false) (close-apart c (x .board) d n)
     line-of (collect c room) n = collect-touches c room (x .board) .others d n

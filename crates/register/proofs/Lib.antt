@@ -8,6 +8,7 @@ pub mod BoxCalls
 pub mod BoxLawful
 pub mod BoxDemand
 pub mod Laws
+pub mod Strict
 pub mod Counts
 pub mod Longest
 pub mod BoxContracts

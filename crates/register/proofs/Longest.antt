@@ -11,13 +11,16 @@ use lib.ListN.{length, length-append}
 use Rattle.laws.specs.Put.{rows}
 use Rattle.laws.specs.Chunks.{chunks}
 use Rattle.words.specs.Words.{valueOf, fits, numberAt}
+use Rattle.crc.specs.Crc.{crcOf}
 use Rattle.steps.specs.Cut.{frame}
+use Rattle.frames.proofs.Sealing.{true-sum}
 use Rattle.rows.specs.Places.{Board, lineAt}
 use Rattle.devices.specs.Devices.{idOf, firstWith, deviceOf}
 use Rattle.judges.specs.declared.Order.the-variants.{Read}
 use Rattle.judges.specs.Judges.{judgeRead}
 use Rattle.orders.specs.Orders.{readOf, orderOf}
 use Rattle.readings.specs.Readings.{inputBlock, blockOf, entryOf, idsIn, devicesReply}
+use Rattle.connections.specs.Lines.{isStrict}
 use Rattle.answers.specs.Calls.{framed}
 use Rattle.serving.specs.Obeying.{obeyed}
 use Rattle.serving.specs.Serving.{servedContent, servedMessage}
@@ -71,6 +74,6 @@ unfolding orderOf readOf judgeRead numberAt fits
 asks rank h = rw (length-asked 127, le-ltb rank 1 h)
 
 pub longest-reached : (c : ℕ) (p : Board) → 1 ≤ lineAt c p .rank
-    → (s : List ℕ) × (length s ≡ 3 + 8 * 127) × (length (servedMessage c (frame 0xFFFF s) p .reply) ≡ 3437)
+    → (s : List ℕ) × (length s ≡ 3 + 8 * 127) × (length (servedMessage c (frame (crcOf s) s) p .reply) ≡ 3437)
 unfolding servedMessage servedContent obeyed
-longest-reached c p h = (asking, rw (length-asked 127), rw (asks (lineAt c p .rank) h) (length-frame p))
+longest-reached c p h = (asking, rw (length-asked 127), rw (true-sum asking (isStrict c p), asks (lineAt c p .rank) h) (length-frame p))

@@ -27,7 +27,6 @@ use Rattle.ring.specs.declared.Pulse.{Pulse}
 use Rattle.pulses.specs.Pulses.{accepted}
 use Rattle.ring.specs.Ring.{pulseOf, relayPulse, runs, isFull, joined}
 use Rattle.pulses.proofs.Passing.{has-row, told-again}
-use Rattle.connections.specs.Lines.{openedLine}
 use Rattle.plain.specs.Events.{leveled, monitorSent}
 use Rattle.serving.specs.Obeying.{monitorSet, clockTold, pulsed, obeyed}
 use Rattle.serving.specs.Serving.{servedContent, servedMessage}
@@ -71,16 +70,16 @@ follows false e = e
 -- all of them but passing time
 pub data Timeless : Event → Type 0 where
   telling : (k v : ℕ) → Timeless (level k v)
-  opening : (c rank : ℕ) → Timeless (connect c rank)
+  opening : (c rank strict : ℕ) → Timeless (connect c rank strict)
   closing : (c : ℕ) → Timeless (close c)
   collecting : (c room : ℕ) → Timeless (collect c room)
 
 pub queue-event : {e : Event} → Timeless e → (t : Tables) → Beside (t .board) (happens e t .board)
 unfolding leveled monitorSent
 queue-event (telling k v) t = follows (levelOf k v (t .board) .changed) (level-stays leaves-queue k v (t .board))
-queue-event (opening c rank) t =
+queue-event (opening c rank strict) t =
     let b : Board = t .board in
-    connect-cases c b rank (λ d. Beside b (d .board)) (same b) (same b) (same b) (λ u. line-beside c (openedLine rank) b)
+    connect-cases c b rank strict (λ d. Beside b (d .board)) (same b) (same b) (same b) (λ u. line-beside c _ b)
 queue-event (closing c) t = let b : Board = t .board in close-cases c b (λ d. Beside b (d .board)) (same b) (λ u. line-beside c _ b)
 queue-event (collecting c room) t =
     let b : Board = t .board in

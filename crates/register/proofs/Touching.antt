@@ -1,6 +1,6 @@
 -- What events and messages leave of the connections, openings and closings aside.
 --     Unmarked    each connection is as it was, its mark aside: level-event, pass-event
---     Touches     each is as open as it was, and each but the sender's as it was, its mark aside: collect-touches, message-touches
+--     Touches     each has what its opening settled, and each but the sender's is as it was, its mark aside: collect-touches, message-touches
 use mathlib.Core.Path.{_≡_, refl, ap, _∙_}
 use mathlib.Core.Bool.{Bool, true, false, cond}
 use mathlib.Core.List.{List, [], _∷_}
@@ -18,7 +18,7 @@ use Rattle.rows.specs.declared.Line.{Line}
 use Rattle.rows.specs.Places.{Board, isConnection, rowAt, lineAt, putLine, onRows, linePlace, firstLine, queueRow, queueOf}
 use Rattle.rows.specs.Rows.{lineIn, lineWords, shutLine}
 use Rattle.rows.proofs.Range.{beyond}
-use Rattle.rows.proofs.Views.{flag-again, line-again}
+use Rattle.rows.proofs.Views.{line-again}
 use Rattle.changes.specs.Levels.{levelOf}
 use Rattle.orders.specs.Orders.{orderOf}
 use Rattle.writes.specs.Writes.{soFar}
@@ -26,8 +26,8 @@ use Rattle.ring.specs.declared.Pulse.{Pulse}
 use Rattle.pulses.specs.Pulses.{shortRow}
 use Rattle.ring.specs.Ring.{pulseOf, relayPulse, isFull}
 use Rattle.pulses.proofs.Keeping.{Keeps, elapsed-keeps, accepted-keeps}
-use Rattle.connections.specs.Lines.{isOpen}
-use Rattle.marks.specs.Marks.{withDue, watches, markedRow, marked}
+use Rattle.connections.specs.Lines.{isOpen, isStrict}
+use Rattle.marks.specs.Marks.{withDue, withMonitor, watches, markedRow, marked}
 use Rattle.plain.specs.Events.{leveled, timePassed, monitorSent, collected}
 use Rattle.serving.specs.Obeying.{monitorSet, clockTold, pulsed, obeyed}
 use Rattle.serving.specs.Serving.{servedContent, servedMessage}
@@ -44,24 +44,38 @@ same b = record { at = λ d. refl }
 then : {b b′ b″ : Board} → Unmarked b b′ → Unmarked b′ b″ → Unmarked b b″
 then e f = record { at = λ d. f .at d ∙ e .at d }
 
--- what came from connection c leaves it as open as it was, and the others as they were, their marks aside
+-- what the opening of a connection settles, and nothing but its closing changes: that it is open, its rank, whether it is strict
+abbrev settled : Line → Line
+settled l = withMonitor false (withDue false l)
+
+pub record Settled (b b′ : Board) : Type 0 where
+  pub of : (d : ℕ) → settled (lineAt d b′) ≡ settled (lineAt d b)
+
+pub unmarked-settled : {b b′ : Board} → Unmarked b b′ → Settled b b′
+unmarked-settled e = record { of = λ d. ap settled (e .at d) }
+
+-- so each is as open as it was, and as strict
+pub as-open : {b b′ : Board} → Settled b b′ → (d : ℕ) → isOpen d b′ ≡ isOpen d b
+as-open e d = ap (λ (l : Line). l .isOpen) (e .of d)
+
+pub as-strict : {b b′ : Board} → Settled b b′ → (d : ℕ) → isStrict d b′ ≡ isStrict d b
+as-strict e d = ap (λ (l : Line). l .strict) (e .of d)
+
+-- what came from connection c leaves each what its opening settled, and the others as they were, their marks aside
 pub record Touches (c : ℕ) (b b′ : Board) : Type 0 where
-  pub as-open : (d : ℕ) → isOpen d b′ ≡ isOpen d b
+  pub as-opened : Settled b b′
   pub others : (d : ℕ) → eqb d c ≡ false → withDue false (lineAt d b′) ≡ withDue false (lineAt d b)
 
-pub unmarked-open : {b b′ : Board} → Unmarked b b′ → (d : ℕ) → isOpen d b′ ≡ isOpen d b
-unmarked-open e d = ap (λ (l : Line). l .isOpen) (e .at d)
-
 quiet : {c : ℕ} {b b′ : Board} → Unmarked b b′ → Touches c b b′
-quiet e = record { as-open = unmarked-open e; others = λ d n. e .at d }
+quiet e = record { as-opened = unmarked-settled e; others = λ d n. e .at d }
 
 pub still : {c : ℕ} {b : Board} → Touches c b b
 still {b = b} = quiet (same b)
 
 -- ---- rows
 
-abbrev opened : List ℕ → Bool
-opened row = lineIn row .isOpen
+abbrev settledIn : List ℕ → Line
+settledIn row = settled (lineIn row)
 
 abbrev unmarked : List ℕ → Line
 unmarked row = withDue false (lineIn row)
@@ -107,9 +121,9 @@ connections-stay =
 
 -- ---- a connection's own row
 
-line-open : (c : ℕ) (b : Board) → isConnection c ≡ true → lineAt c b .isOpen ≡ opened (rowAt (linePlace c) b)
+line-settled : (c : ℕ) (b : Board) → isConnection c ≡ true → settled (lineAt c b) ≡ settledIn (rowAt (linePlace c) b)
 unfolding lineAt
-line-open c b h = ap (λ (t : Bool). cond t (lineIn (rowAt (linePlace c) b)) shutLine .isOpen) h
+line-settled c b h = ap (λ (t : Bool). settled (cond t (lineIn (rowAt (linePlace c) b)) shutLine)) h
 
 -- a store to connection c leaves the others
 pub line-apart : (c d : ℕ) (l : Line) (b : Board) → eqb d c ≡ false → lineAt d (putLine c l b) ≡ lineAt d b
@@ -122,16 +136,16 @@ line-apart c d l b n =
     other : linePlace d ≡ linePlace c → ⊥
     other e = eqb-false d c n (omega arith)
 
--- another connection in c's place, which is as open as c was
-line-as-open : (c : ℕ) (l : Line) (b : Board) → l .isOpen ≡ lineAt c b .isOpen → (d : ℕ) → isOpen d (putLine c l b) ≡ isOpen d b
+-- another connection in c's place, with what c's opening settled
+line-as-opened : (c : ℕ) (l : Line) (b : Board) → settled l ≡ settled (lineAt c b) → (d : ℕ) → settled (lineAt d (putLine c l b)) ≡ settled (lineAt d b)
 unfolding putLine
-line-as-open c l b e d = by-cases (isConnection c) (λ h. rw h (by-rows (λ x. x .isOpen) b _ (λ d l. row h d) d)) (λ h. rw h)
+line-as-opened c l b e d = by-cases (isConnection c) (λ h. rw h (by-rows settled b _ (λ d l. row h d) d)) (λ h. rw h)
   where
-    row : isConnection c ≡ true → (d : ℕ) → opened (rowAt (linePlace d) (set b (linePlace c) (lineWords l))) ≡ opened (rowAt (linePlace d) b)
-    row h d = set-same-by opened b (linePlace c) (linePlace d) (lineWords l) (flag-again (l .isOpen) ∙ e ∙ line-open c b h)
+    row : isConnection c ≡ true → (d : ℕ) → settledIn (rowAt (linePlace d) (set b (linePlace c) (lineWords l))) ≡ settledIn (rowAt (linePlace d) b)
+    row h d = set-same-by settledIn b (linePlace c) (linePlace d) (lineWords l) (ap settled (line-again l) ∙ e ∙ line-settled c b h)
 
-line-touches : (c : ℕ) (l : Line) (b : Board) → l .isOpen ≡ lineAt c b .isOpen → Touches c b (putLine c l b)
-line-touches c l b e = record { as-open = line-as-open c l b e; others = λ d n. ap (withDue false) (line-apart c d l b n) }
+line-touches : (c : ℕ) (l : Line) (b : Board) → settled l ≡ settled (lineAt c b) → Touches c b (putLine c l b)
+line-touches c l b e = record { as-opened = record { of = line-as-opened c l b e }; others = λ d n. ap (withDue false) (line-apart c d l b n) }
 
 -- ---- marks
 

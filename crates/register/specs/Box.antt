@@ -24,11 +24,11 @@ use Rattle.pieces.specs.Pieces.{bytesCall, halvesAfter, roomsAfter}
 use Rattle.demand.specs.Plain.{Serving}
 use Rattle.demand.specs.Demand.{Said, waits, refused, did, Call, bytes, other, Answer, answer, Machine, Trace, View, final, trace, begins}
 
--- 01, Events, 1 to 5; a collection lends a reply buffer of so many bytes
+-- 01, Events, 1 to 5; an opening says the rank and, by 02, M-103, 2, the strictness; a collection lends a reply buffer of so many bytes
 pub data Event : Type 0 where
   level : ℕ → ℕ → Event
   pass : ℕ → Event
-  connect : ℕ → ℕ → Event
+  connect : ℕ → ℕ → ℕ → Event
   close : ℕ → Event
   collect : ℕ → ℕ → Event
 
@@ -65,7 +65,7 @@ refusalOf t c room =
 abbrev pub happens : Event → Tables → Did
 happens (level k v) t = leveled k v (t .board)
 happens (pass d) t = timePassed d (t .row) (t .board)
-happens (connect c rank) t = connected c rank (t .board)
+happens (connect c rank strict) t = connected c rank strict (t .board)
 happens (close c) t = closed c (t .board)
 happens (collect c room) t = collected c room (t .board)
 
@@ -79,7 +79,7 @@ pub data On : Type 0 where
 abbrev pub on : Event → On
 on (level k v) = nobody
 on (pass d) = nobody
-on (connect c rank) = dropping c
+on (connect c rank strict) = dropping c
 on (close c) = dropping c
 on (collect c room) = keeping c
 

@@ -51,6 +51,7 @@ pub struct Line {
     pub rank: u64,
     pub monitor: bool,
     pub due: bool,
+    pub strict: bool,
 }
 
 // The queue of pulses, without its records, which stand in a row of their own: the place of the first, which runs, and how many stand; of the
@@ -126,6 +127,7 @@ pub fn line_in(row: [u64; 8]) -> Line
         rank: row[1],
         monitor: row[2] != 0,
         due: row[3] != 0,
+        strict: row[4] != 0,
     }
 }
 
@@ -137,7 +139,7 @@ pub fn line_words(l: Line) -> [u64; 8]
         l.rank,
         flag(l.monitor),
         flag(l.due),
-        0,
+        flag(l.strict),
         0,
         0,
         0,
