@@ -289,7 +289,7 @@ fn shown(name: &[u8], board: &[[u64; 8]; ROWS], d: Done) {
 }
 
 fn connect(name: &[u8], board: &mut [[u64; 8]; ROWS], halves: &mut [[u64; 3]; 4], c: u8, rank: u8) {
-    let d = board::connect(board, halves, c, rank);
+    let d = board::connect(board, halves, c, rank, 0);
     shown(name, board, d);
 }
 
@@ -472,6 +472,44 @@ fn box_of_four() {
     edges(&mut board, &mut halves, &mut rooms);
 }
 
+// ---- a strict connection beside one that is not (02, M-103)
+
+// A checksum that is not the content's: 0xFFFF on 0, which is strict, and on 1, which is not; also over no content.
+fn unchecked(board: &mut [[u64; 8]; ROWS], halves: &mut [[u64; 3]; 4], rooms: &mut [u8; 4096]) {
+    let block = b"\x01\x00\x04\xff\xff\x0a\x0a\x05\x05";
+    let nothing = b"\x01\x00\x00\xff\xff";
+    piece(b"0 strict, sum ffff", board, halves, rooms, 0, block);
+    piece(b"0 strict, N 0, sum ffff", board, halves, rooms, 0, nothing);
+    piece(b"1 sum ffff", board, halves, rooms, 1, block);
+    piece(b"1 N 0, sum ffff", board, halves, rooms, 1, nothing);
+}
+
+// The content's own checksum, which is 0xFFFF in the second.
+fn checked(board: &mut [[u64; 8]; ROWS], halves: &mut [[u64; 3]; 4], rooms: &mut [u8; 4096]) {
+    let usual = b"\x01\x00\x04\x7b\xa3\x0a\x0a\x02\x02";
+    let all_ones = b"\x01\x00\x04\xff\xff\x0a\x0a\xd1\xb2";
+    piece(b"0 strict, true sum", board, halves, rooms, 0, usual);
+    piece(
+        b"0 strict, true sum ffff",
+        board,
+        halves,
+        rooms,
+        0,
+        all_ones,
+    );
+}
+
+fn strict_beside_not() {
+    let mut board = [[0u64; 8]; ROWS];
+    let mut halves = [[0u64; 3]; 4];
+    let mut rooms = [0u8; 4096];
+    power_up(&mut board, 0);
+    board::connect(&mut board, &mut halves, 0, 2, 1);
+    board::connect(&mut board, &mut halves, 1, 2, 0);
+    unchecked(&mut board, &mut halves, &mut rooms);
+    checked(&mut board, &mut halves, &mut rooms);
+}
+
 // ---- the count alarms of input 1 (02, M-101)
 
 // An alarm's byte.
@@ -523,7 +561,7 @@ fn setpoint_of_100() {
     let mut halves = [[0u64; 3]; 4];
     let mut rooms = [0u8; 4096];
     power_up(&mut board, 100);
-    board::connect(&mut board, &mut halves, 0, 2);
+    board::connect(&mut board, &mut halves, 0, 2, 0);
     alarms(
         b"count 99",
         &mut board,
@@ -556,5 +594,6 @@ fn main() {
     limits();
     streams();
     box_of_four();
+    strict_beside_not();
     setpoint_of_100();
 }
