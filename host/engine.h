@@ -37,9 +37,9 @@ static inline void engine_pass(engine *e, const engine_pulse *row, size_t record
     e->answer = peer_pass(&e->box, row, records, d);
 }
 
-static inline void engine_connect(engine *e, uint8_t c, uint8_t rank)
+static inline void engine_connect(engine *e, uint8_t c, uint8_t rank, uint8_t strict)
 {
-    e->answer = peer_connect(&e->box, c, rank);
+    e->answer = peer_connect(&e->box, c, rank, strict);
 }
 
 static inline void engine_close(engine *e, uint8_t c)
@@ -97,7 +97,13 @@ static inline wellacorn_board engine_board(const engine *e)
     }
     for (int c = 0; c < WELLACORN_CONNECTIONS; c++) {
         const peer_line *line = &e->box.connections[c].line;
-        b.lines[c] = (wellacorn_line){.is_open = line->is_open, .rank = line->rank, .monitor = line->monitor, .due = line->due};
+        b.lines[c] = (wellacorn_line){
+            .is_open = line->is_open,
+            .rank = line->rank,
+            .monitor = line->monitor,
+            .due = line->due,
+            .strict = line->strict,
+        };
     }
     return b;
 }
@@ -137,9 +143,9 @@ static inline void engine_pass(engine *e, const engine_pulse *row, size_t record
     e->answer = wellacorn_pass(&e->board, row, records, d).answer;
 }
 
-static inline void engine_connect(engine *e, uint8_t c, uint8_t rank)
+static inline void engine_connect(engine *e, uint8_t c, uint8_t rank, uint8_t strict)
 {
-    e->answer = wellacorn_connect(&e->board, e->halves, c, rank).answer;
+    e->answer = wellacorn_connect(&e->board, e->halves, c, rank, strict).answer;
 }
 
 static inline void engine_close(engine *e, uint8_t c)

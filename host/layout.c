@@ -7,6 +7,7 @@
  * field is seen where some call changes it and no other, and what a call does not name is seen to stay: the unused words, the rooms of the
  * other connections, the other records of the row, the words around the box.
  */
+#include "frame.h"
 #include "wellacorn.h"
 
 #include <inttypes.h>
@@ -89,7 +90,7 @@ static void begin(void)
 
 static const wellacorn_half nothing_read;
 
-/* Connection c is open at rank 2, its Monitor on and not due, at a message start. The others have ranks that nobody has. */
+/* Connection c is open at rank 2 and not strict, its Monitor on and not due, at a message start. The others have ranks that nobody has. */
 static wellacorn_line *listening(uint8_t c)
 {
     wellacorn_line *line = &board->lines[c];
@@ -115,6 +116,16 @@ static void send_for(const char *call, uint8_t c, const uint8_t *content, size_t
 static void send(const char *call, uint8_t c, const uint8_t *content, size_t n)
 {
     send_for(call, c, content, n, WELLACORN_SERVED);
+}
+
+/* The same with its checksum. */
+static void send_checked(const char *call, uint8_t c, const uint8_t *content, size_t n)
+{
+    uint8_t frame[16];
+    frame_head(frame, content, n);
+    memcpy(frame + 5, content, n);
+    memcpy(room_of(c), content, n);
+    came_to(call, wellacorn_box_bytes(&found.box, c, frame, 5 + n, reply, sizeof reply), WELLACORN_SERVED, 5 + n, 0);
 }
 
 /* ---- The settings: each comes to its place, the board is 0 elsewhere, and nothing besides is written to */
@@ -184,14 +195,25 @@ static void try_close_relay(uint8_t k, uint8_t c)
     send("a relay is closed", c, (const uint8_t[]){10, 1, 0, k}, 4);
 }
 
-static void try_connect(uint8_t c, uint8_t rank)
+/* Whatever the byte that says strict, the board has a flag. */
+static void try_connect(uint8_t c, uint8_t rank, uint8_t strict)
 {
     scribble();
     board->lines[c].is_open = 0;
     begin();
-    board->lines[c] = (wellacorn_line){.is_open = 1, .rank = rank, .monitor = 1, .due = rank > 0};
+    board->lines[c] = (wellacorn_line){.is_open = 1, .rank = rank, .monitor = 1, .due = rank > 0, .strict = strict > 0};
     expected.box.halves[c] = nothing_read;
-    came_to("connect", wellacorn_box_connect(&found.box, c, rank), WELLACORN_SERVED, 0, 0);
+    came_to("connect", wellacorn_box_connect(&found.box, c, rank, strict), WELLACORN_SERVED, 0, 0);
+}
+
+static void try_connects(uint8_t c)
+{
+    static const uint8_t says[] = {0, 1, 2, 128, 255};
+    for (uint8_t rank = 0; rank <= 2; rank++) {
+        for (size_t i = 0; i < COUNT(says); i++) {
+            try_connect(c, rank, says[i]);
+        }
+    }
 }
 
 static void try_close(uint8_t c)
@@ -225,6 +247,27 @@ static void try_collect(uint8_t c)
     begin();
     line->due = 0;
     came_to("collect", wellacorn_box_collect(&found.box, c, reply, sizeof reply), WELLACORN_SERVED, 0, 102);
+}
+
+/* Only the word `strict` differs between a connection on which 0xFFFF passes and one on which it does not. Whatever else writes its row leaves
+ * that word as it is. */
+static void try_strict(uint8_t c)
+{
+    scribble();
+    wellacorn_line *line = listening(c);
+    line->strict = 1;
+    board->inputs[0] = (wellacorn_input){.level = 0};
+    begin();
+    send_for("strict, 0xFFFF", c, (const uint8_t[]){5, 0, 4}, 3, WELLACORN_BAD_CHECKSUM);
+    line->monitor = 0;
+    send_checked("strict, Monitor off", c, (const uint8_t[]){5, 0, 4}, 3);
+    line->monitor = 1;
+    send_checked("strict, Monitor on", c, (const uint8_t[]){5, 0, 5}, 3);
+    line->due = board->inputs[0].level = board->inputs[0].count = 1;
+    came_to("strict, level", wellacorn_box_level(&found.box, 1, 1), WELLACORN_SERVED, 0, 0);
+    line->due = 0;
+    came_to("strict, collect", wellacorn_box_collect(&found.box, c, reply, sizeof reply), WELLACORN_SERVED, 0, 102);
+    send_for("strict still, 0xFFFF", c, (const uint8_t[]){5, 0, 5}, 3, WELLACORN_BAD_CHECKSUM);
 }
 
 /* ---- Pulses: the queue's row of the board, and the records of the row that is lent */
@@ -459,15 +502,15 @@ static void try_unchanged(void)
 {
     const uint8_t piece[] = {0x06, 0x06};
     scribble();
-    listening(0);
+    listening(0)->strict = 1;
     board->lines[1].is_open = 0;
     begin();
     came_to("level 0 0", wellacorn_box_level(&found.box, 0, 0), WELLACORN_OUT_OF_RANGE, 0, 0);
     came_to("level 1 2", wellacorn_box_level(&found.box, 1, 2), WELLACORN_OUT_OF_RANGE, 0, 0);
     came_to("pass 0", wellacorn_box_pass(&found.box, 0), WELLACORN_SERVED, 0, 0);
-    came_to("connect 4 0", wellacorn_box_connect(&found.box, 4, 0), WELLACORN_NO_CONNECTION, 0, 0);
-    came_to("connect 0 2", wellacorn_box_connect(&found.box, 0, 2), WELLACORN_ALREADY_OPEN, 0, 0);
-    came_to("connect 1 3", wellacorn_box_connect(&found.box, 1, 3), WELLACORN_BAD_RANK, 0, 0);
+    came_to("connect 4 0 1", wellacorn_box_connect(&found.box, 4, 0, 1), WELLACORN_NO_CONNECTION, 0, 0);
+    came_to("connect 0 2 0", wellacorn_box_connect(&found.box, 0, 2, 0), WELLACORN_ALREADY_OPEN, 0, 0);
+    came_to("connect 1 3 1", wellacorn_box_connect(&found.box, 1, 3, 1), WELLACORN_BAD_RANK, 0, 0);
     came_to("close 1", wellacorn_box_close(&found.box, 1), WELLACORN_NO_CONNECTION, 0, 0);
     came_to("close 255", wellacorn_box_close(&found.box, 255), WELLACORN_NO_CONNECTION, 0, 0);
     came_to("collect 1", wellacorn_box_collect(&found.box, 1, reply, sizeof reply), WELLACORN_NO_CONNECTION, 0, 0);
@@ -510,12 +553,11 @@ int main(void)
             try_level(k, c);
             try_close_relay(k, c);
         }
-        for (uint8_t rank = 0; rank <= 2; rank++) {
-            try_connect(c, rank);
-        }
+        try_connects(c);
         try_close(c);
         try_monitor(c);
         try_collect(c);
+        try_strict(c);
         try_half(c);
         try_room(c);
         try_done(c);

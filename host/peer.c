@@ -7,7 +7,8 @@ enum {
     START = 0x01,
     ACK = 0x06,
     HEADER = 5,             /* start byte, length, checksum */
-    UNCHECKED = 0xFFFF      /* 01, Frame, 5: the checksum that stands for none */
+    UNCHECKED = 0xFFFF,     /* 01, Frame, 5: the checksum that stands for none */
+    NO_CHECKSUM = 0x10000   /* more than two bytes hold */
 };
 
 enum type {
@@ -630,7 +631,8 @@ static uint8_t judge(peer_box *box, peer_line *line, peer_pulse *row, const uint
     if (n > WELLACORN_CONTENT) {
         return WELLACORN_TOO_LONG;
     }
-    if (sum != UNCHECKED && sum != crc16(content, n)) {
+    /* 02, M-103, 3: one comparison, as fast as if there were no strictness. */
+    if (sum != line->unchecked && sum != crc16(content, n)) {
         return WELLACORN_BAD_CHECKSUM;
     }
     uint8_t *end = reply + HEADER;
@@ -719,7 +721,7 @@ uint8_t peer_pass(peer_box *box, const peer_pulse *row, size_t records, uint32_t
 
 static const peer_half nothing_read;
 
-uint8_t peer_connect(peer_box *box, uint8_t c, uint8_t rank)
+uint8_t peer_connect(peer_box *box, uint8_t c, uint8_t rank, uint8_t strict)
 {
     if (c >= WELLACORN_CONNECTIONS) {
         return WELLACORN_NO_CONNECTION;
@@ -731,7 +733,14 @@ uint8_t peer_connect(peer_box *box, uint8_t c, uint8_t rank)
     if (rank > 2) {
         return WELLACORN_BAD_RANK;
     }
-    opened->line = (peer_line){.is_open = true, .rank = rank, .monitor = true, .due = rank > 0};
+    opened->line = (peer_line){
+        .is_open = true,
+        .rank = rank,
+        .monitor = true,
+        .due = rank > 0,
+        .strict = strict != 0,
+        .unchecked = strict != 0 ? NO_CHECKSUM : UNCHECKED,
+    };
     opened->half = nothing_read;
     return WELLACORN_SERVED;
 }

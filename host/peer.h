@@ -36,6 +36,8 @@ typedef struct {
     uint8_t rank;
     bool monitor;
     bool due;
+    bool strict;
+    uint32_t unchecked;     /* the sent checksum that passes unchecked; on a strict connection a number that nobody can send */
 } peer_line;
 
 typedef struct {
@@ -77,7 +79,7 @@ typedef struct {
 void peer_power_up(peer_box *box, const wellacorn_settings *settings);
 uint8_t peer_level(peer_box *box, uint8_t k, uint8_t v);
 uint8_t peer_pass(peer_box *box, const peer_pulse *row, size_t records, uint32_t d);
-uint8_t peer_connect(peer_box *box, uint8_t c, uint8_t rank);
+uint8_t peer_connect(peer_box *box, uint8_t c, uint8_t rank, uint8_t strict);
 uint8_t peer_close(peer_box *box, uint8_t c);
 
 /* They always set `taken` and `len` of the box. By pointers of their own these would no longer fit registers beside the row. */

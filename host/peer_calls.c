@@ -66,9 +66,9 @@ wellacorn_done wellacorn_pass(wellacorn_board *board, const wellacorn_pulse *row
     return told(board);
 }
 
-wellacorn_done wellacorn_connect(wellacorn_board *board, wellacorn_half halves[WELLACORN_CONNECTIONS], uint8_t c, uint8_t rank)
+wellacorn_done wellacorn_connect(wellacorn_board *board, wellacorn_half halves[WELLACORN_CONNECTIONS], uint8_t c, uint8_t rank, uint8_t strict)
 {
-    engine_connect(&box, c, rank);
+    engine_connect(&box, c, rank, strict);
     if (box.answer == WELLACORN_SERVED) {
         halves[c] = engine_half(&box, c);
     }

@@ -249,13 +249,14 @@ static bool power(const word *words, size_t n)
     return true;
 }
 
+/* A line that ends before it says whether the connection is strict opens one that is not. */
 static bool connect_line(const word *words, size_t n)
 {
-    uint8_t c, rank;
-    if (n != 2 || !byte(words[0], &c) || !byte(words[1], &rank)) {
+    uint8_t c, rank, strict = 0;
+    if (n < 2 || n > 3 || !byte(words[0], &c) || !byte(words[1], &rank) || (n == 3 && !byte(words[2], &strict))) {
         return false;
     }
-    engine_connect(&box, c, rank);
+    engine_connect(&box, c, rank, strict);
     print_number(box.answer);
     return true;
 }
@@ -428,7 +429,7 @@ static bool state(const word *words, size_t n)
     print_text(" N");
     for (int c = 0; c < WELLACORN_CONNECTIONS; c++) {
         const wellacorn_line *line = &b.lines[c];
-        print_numbers((const uint64_t[]){line->is_open, line->rank, line->monitor, line->due, engine_half(&box, c).got}, 5);
+        print_numbers((const uint64_t[]){line->is_open, line->rank, line->monitor, line->due, engine_half(&box, c).got, line->strict}, 6);
     }
     print_queue(&b.queue);
     return true;

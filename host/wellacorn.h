@@ -6,7 +6,7 @@
  *     static wellacorn_box box;
  *     static uint8_t reply[WELLACORN_REPLY];
  *     wellacorn_box_power_up(&box, settings);
- *     wellacorn_box_connect(&box, 0, 2);
+ *     wellacorn_box_connect(&box, 0, 2, 1);    // connection 0, at rank 2, strict
  *     wellacorn_done done = wellacorn_box_bytes(&box, 0, piece, piece_len, reply, sizeof reply);
  *     // send done.len bytes of reply; offer the bytes from piece + done.taken on again, before any later ones
  *
@@ -55,7 +55,7 @@ enum {
     WELLACORN_SHORT_BUFFER = 4,     /* fewer bytes than WELLACORN_REPLY are lent for the reply, or fewer records than WELLACORN_PULSES */
     WELLACORN_STRAY = 5,            /* a byte with which no message begins: 1 taken, nothing changed */
     WELLACORN_TOO_LONG = 6,         /* a content of more bytes than WELLACORN_CONTENT */
-    WELLACORN_BAD_CHECKSUM = 7,     /* neither the content's checksum nor 0xFFFF */
+    WELLACORN_BAD_CHECKSUM = 7,     /* not the content's checksum; 0xFFFF is let pass all the same, but not on a strict connection */
     WELLACORN_NOT_OFFERED = 8,      /* no content, or a type that the box does not serve */
     WELLACORN_LOW_RANK = 9,         /* the type needs a higher rank */
     WELLACORN_BAD_LENGTH = 10,      /* too few or too many bytes for the type's layout */
@@ -101,7 +101,8 @@ typedef struct {
     uint64_t rank;              /* 0 not logged in, 1 user, 2 administrator */
     uint64_t monitor;           /* Monitor on or off */
     uint64_t due;               /* Monitor due or not */
-    uint64_t unused[4];
+    uint64_t strict;            /* 0xFFFF stands for no checksum but itself */
+    uint64_t unused[3];
 } wellacorn_line;
 
 /* The queue of pulses. The pulses themselves stand in the row: the running one at the place `first`, behind it those that wait, in the order
@@ -177,9 +178,10 @@ wellacorn_done wellacorn_level(wellacorn_board *board, uint8_t k, uint8_t v);
  * A relay that a pulse has closed is closed until this call says that its time is over: `queue.left` of the board says when that is. */
 wellacorn_done wellacorn_pass(wellacorn_board *board, const wellacorn_pulse *row, size_t records, uint32_t d);
 
-/* Opens connection c at a rank: at a message start, with Monitor on, and due at rank 1 or 2. Answers SERVED, or NO_CONNECTION, ALREADY_OPEN
- * or BAD_RANK. */
-wellacorn_done wellacorn_connect(wellacorn_board *board, wellacorn_half halves[WELLACORN_CONNECTIONS], uint8_t c, uint8_t rank);
+/* Opens connection c at a rank: at a message start, with Monitor on, and due at rank 1 or 2. `strict` is 0 for a connection on which a sent
+ * checksum of 0xFFFF passes unchecked, as the protocol has it; with any other value none does, and the connection stays so until it is closed:
+ * that is for a link that garbles bytes, such as radio. Answers SERVED, or NO_CONNECTION, ALREADY_OPEN or BAD_RANK. */
+wellacorn_done wellacorn_connect(wellacorn_board *board, wellacorn_half halves[WELLACORN_CONNECTIONS], uint8_t c, uint8_t rank, uint8_t strict);
 
 /* Closes connection c: half a message is forgotten, and everything of it is zero. Answers SERVED, or NO_CONNECTION. */
 wellacorn_done wellacorn_close(wellacorn_board *board, wellacorn_half halves[WELLACORN_CONNECTIONS], uint8_t c);
@@ -229,9 +231,9 @@ static inline wellacorn_done wellacorn_box_pass(wellacorn_box *box, uint32_t d)
     return wellacorn_pass(&box->board, box->row, WELLACORN_PULSES, d);
 }
 
-static inline wellacorn_done wellacorn_box_connect(wellacorn_box *box, uint8_t c, uint8_t rank)
+static inline wellacorn_done wellacorn_box_connect(wellacorn_box *box, uint8_t c, uint8_t rank, uint8_t strict)
 {
-    return wellacorn_connect(&box->board, box->halves, c, rank);
+    return wellacorn_connect(&box->board, box->halves, c, rank, strict);
 }
 
 static inline wellacorn_done wellacorn_box_close(wellacorn_box *box, uint8_t c)
@@ -281,6 +283,7 @@ WELLACORN_PLACE(wellacorn_line, is_open, 0);
 WELLACORN_PLACE(wellacorn_line, rank, 8);
 WELLACORN_PLACE(wellacorn_line, monitor, 16);
 WELLACORN_PLACE(wellacorn_line, due, 24);
+WELLACORN_PLACE(wellacorn_line, strict, 32);
 
 WELLACORN_SIZE(wellacorn_queue, WELLACORN_ROW);
 WELLACORN_PLACE(wellacorn_queue, first, 0);

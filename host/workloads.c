@@ -29,7 +29,7 @@ static void fresh(void)
         s.relays[k] = 200000;
     }
     engine_power_up(&box, &s);
-    engine_connect(&box, 0, 2);
+    engine_connect(&box, 0, 2, 0);
     for (uint8_t k = 1; k <= WELLACORN_CHANNELS; k += 2) {
         engine_level(&box, k, 1);
     }

@@ -25,7 +25,7 @@ enum {
 };
 
 typedef struct {
-    void (*fresh)(void);                /* powers up and opens connection 0 at rank 2, half of the inputs on and of the relays closed */
+    void (*fresh)(void);                /* powers up and opens connection 0 at rank 2, not strict, half of the inputs on and of the relays closed */
     workload *does[WORKLOADS];
     wellacorn_board (*board)(void);     /* what the box holds */
     wellacorn_half (*half)(int c);      /* how far a message of connection c has been read */

@@ -21,20 +21,36 @@ ROWS = [
     ("bytes 0 4096 010008FFFF0A06000100000003 30", "4 0 0 -"),
     ("bytes 0 4096 010008FFFF0A06000100000003 64", "1 13 0 -"),
     ("bytes 0 4096 010008FFFF0A0703FEFFFFFFFF 31", "1 13 0 -"),
-    ("state", "C 4 I" + " 0,0,0" * 8 + " R 1,0" + " 0,0" * 7 + " N 1,2,1,1,0" + " 0,0,0,0,0" * 3 + " P 2 1,1,3 3,2,4294967295 was 0"),
+    ("state", "C 4 I" + " 0,0,0" * 8 + " R 1,0" + " 0,0" * 7 + " N 1,2,1,1,0,0" + " 0,0,0,0,0,0" * 3 + " P 2 1,1,3 3,2,4294967295 was 0"),
     ("pass 3 30", "4"),
     ("pass 3 32", "1"),
-    ("state", "C 7 I" + " 0,0,0" * 8 + " R 0,3 1,0" + " 0,0" * 6 + " N 1,2,1,1,0" + " 0,0,0,0,0" * 3 + " P 1 3,2,4294967295 was 0"),
+    ("state", "C 7 I" + " 0,0,0" * 8 + " R 0,3 1,0" + " 0,0" * 6 + " N 1,2,1,1,0,0" + " 0,0,0,0,0,0" * 3 + " P 1 3,2,4294967295 was 0"),
     ("pass 4294967294", "1"),
     ("pass 1 64", "1"),
-    ("state", "C 4294967302 I" + " 0,0,0" * 8 + " R 0,3 0,4294967295" + " 0,0" * 6 + " N 1,2,1,1,0" + " 0,0,0,0,0" * 3 + " P 0"),
+    ("state", "C 4294967302 I" + " 0,0,0" * 8 + " R 0,3 0,4294967295" + " 0,0" * 6 + " N 1,2,1,1,0,0" + " 0,0,0,0,0,0" * 3 + " P 0"),
     ("power", "1"),
-    ("state", "C 0 I" + " 0,0,0" * 8 + " R" + " 0,0" * 8 + " N" + " 0,0,0,0,0" * 4 + " P 0"),
+    ("state", "C 0 I" + " 0,0,0" * 8 + " R" + " 0,0" * 8 + " N" + " 0,0,0,0,0,0" * 4 + " P 0"),
+]
+
+# Openings with every kind of word for strictness. 0, however many digits it has, says not strict, and so does a line without the word. The
+# message with 0xFFFF that follows masks no relay. A refused opening, of an open connection, at a bad rank or of no connection, changes nothing.
+UNCHECKED = "4096 010004FFFF0A0A0000"
+STRICT = [
+    ("open 0 2", "1"), (f"bytes 0 {UNCHECKED}", "1 9 0 -"), ("open 0 2 1", "12"), (f"bytes 0 {UNCHECKED}", "1 9 0 -"),
+    ("open 1 3 1", "13"), ("open 1 2 0", "1"), (f"bytes 1 {UNCHECKED}", "1 9 0 -"), ("open 4 2 1", "3"), ("open 255 255 255", "3"),
+    ("open 2 2 00000000000000000000", "1"), (f"bytes 2 {UNCHECKED}", "1 9 0 -"),
+    ("open 3 2 00000000000000000001", "1"), (f"bytes 3 {UNCHECKED}", "7 9 0 -"), ("open 3 2 0", "12"), (f"bytes 3 {UNCHECKED}", "7 9 0 -"),
+    ("state", "C 0 I" + " 0,0,0" * 8 + " R" + " 0,0" * 8 + " N" + " 1,2,1,1,0,0" * 3 + " 1,2,1,1,0,1 P 0"),
+] + [pair for word in ("2", "3", "127", "128", "254", "255", "0255") for pair in (
+    ("close 0", "1"), (f"open 0 0 {word}", "1"), (f"bytes 0 {UNCHECKED}", "7 9 0 -"))] + [
+    ("state", "C 0 I" + " 0,0,0" * 8 + " R" + " 0,0" * 8 + " N 1,0,1,0,0,1" + " 1,2,1,1,0,0" * 2 + " 1,2,1,1,0,1 P 0"),
+    ("close 3", "1"), ("power", "1"),
+    ("state", "C 0 I" + " 0,0,0" * 8 + " R" + " 0,0" * 8 + " N" + " 0,0,0,0,0,0" * 4 + " P 0"),
 ]
 
 # "any other line": `?`
 OTHER = [
-    "", " ", "?", "open", "open 0", "open 0 2 3", "open 0 256", "open -1 2", "open +1 2", "open 0x1 2", "open  0 2", "open 0 2 ", " open 0 2",
+    "", " ", "?", "open", "open 0", "open 0 256", "open -1 2", "open +1 2", "open 0x1 2", "open  0 2", "open 0 2 ", " open 0 2",
     "Open 0 2", "close", "close 256", "close 0 0", "level 1", "level 1 256", "level 1 1 1", "pass", "pass 4294967296", "pass 1.0", "pass 1e3",
     "pass 99999999999999999999999999", "collect 0", "collect 0 65537", "collect 0 4096 -", "bytes 0 4096", "bytes 0 4096 0", "bytes 0 4096 0g",
     "bytes 0 4096 0a", "bytes 0 65537 06", "bytes 256 4096 06", "bytes 0 4096 --", "power 1", "power" + " 0" * 39,
@@ -44,6 +60,8 @@ OTHER = [
     "pass 1  31", "pass 4294967296 31", "pass 1 99999999999999999999999999", "pass 1 4294967327", "bytes 0 4096 06 65", "bytes 0 4096 06 -",
     "bytes 0 4096 06 0A", "bytes 0 4096 06 31 31", "bytes 0 4096 06 31 ", "bytes 0 4096 06 ", "bytes 0 4096 06  31", "bytes 0 4096 - 65",
     "bytes 0 4096 0 31", "bytes 0 4096 0g 31", "bytes 0 4096 06 18446744073709551647", "bytes 0 65537 06 31", "collect 0 4096 31", "level 1 1 31",
+    "open 0 2 256", "open 0 2 -1", "open 0 2 +1", "open 0 2 -", "open 0 2 x", "open 0 2 1F", "open 0 2 strict", "open 0 2 1 1", "open 0 2 1 ",
+    "open 0 2  1", "open 0 256 1", "open 256 2 1", "open 0 2 18446744073709551617", "open 0 2 000000000000000000001", "open 0 2 1\r",
     "state 31", "power 31", "bytes 0 4096 " + "00" * 100001 + " 31", "bytes 0 4096 " + "00" * 100000 + " 65",
 ]
 
@@ -83,7 +101,7 @@ def main():
              b"\n"]
     text = b"".join(noise.choice(words) if noise.random() < 0.9 else bytes([noise.randrange(256)]) for _ in range(60000)) + b"\n"
     pages = examples()
-    if [len(block) for block in pages] != [7, 13]:
+    if [len(block) for block in pages] != [7, 13, 12]:
         sys.exit(f"bad_lines: {PAGE} has other examples than were counted: {[len(block) for block in pages]}")
     # The longest piece there is: 100,000 stray bytes, of which the first is taken; and the same unread, of a shut connection.
     longest = [("open 0 0", "1"), ("bytes 0 4096 " + "00" * 100000, "5 1 0 -"), ("bytes 1 4096 " + "00" * 100000, "3 0 0 -"),
@@ -92,6 +110,7 @@ def main():
         for block in pages:
             expect(tool, "an example of the page", block)
         expect(tool, "rows", ROWS)
+        expect(tool, "openings", STRICT)
         expect(tool, "other lines", [(line, "?") for line in OTHER])
         expect(tool, "the longest piece", longest)
         lines = play(tool, text).count(b"\n")
@@ -99,8 +118,8 @@ def main():
             sys.exit(f"bad_lines: {tool}: {lines} lines for {text.count(10)} of noise")
         if play(tool, b"open 0 2") not in (b"1\n",):
             sys.exit(f"bad_lines: {tool}: a last line without its end has no answer")
-    print(f"bad_lines: {sum(map(len, pages))} lines of the page, {len(ROWS)} with rows, {len(OTHER)} other lines, {text.count(10)} lines of noise, "
-          f"each answered by {', '.join(TOOLS)}")
+    print(f"bad_lines: {sum(map(len, pages))} lines of the page, {len(ROWS)} with rows, {len(STRICT)} with openings, {len(OTHER)} other lines, "
+          f"{text.count(10)} lines of noise, each answered by {', '.join(TOOLS)}")
 
 
 main()

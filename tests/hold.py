@@ -98,7 +98,7 @@ class Shrinker:
             lines = self.drop_lines(lines)
             lines = self.shorten_pieces(lines)
             lines = self.plain_settings(lines)
-            lines = self.plain_rows(lines)
+            lines = self.plain_ends(lines)
             if lines == before:
                 return lines
 
@@ -177,11 +177,11 @@ class Shrinker:
                 lines[index] = " ".join(words)
         return lines
 
-    def plain_rows(self, lines):
-        """Leaves out the length of the lent row where it does not matter."""
+    def plain_ends(self, lines):
+        """Leaves out the last word that a line may end before, the lent row's length or strictness, where it does not matter."""
         for index, line in enumerate(lines):
             words = line.split(" ")
-            usual = {"pass": 2, "bytes": 4}.get(words[0], len(words))
+            usual = {"pass": 2, "bytes": 4, "open": 3}.get(words[0], len(words))
             plain = lines[:index] + [" ".join(words[:usual])] + lines[index + 1:]
             if len(words) > usual and self.differs(plain) is not None:
                 lines = plain

@@ -1,5 +1,5 @@
 #!/usr/bin/env python3
-"""The box of 01-scope.md, with request M-100 of 02, as a plain machine over joined bytes.
+"""The box of 01-scope.md, with requests M-100, M-101 and M-103 of 02, as a plain machine over joined bytes.
 
 This is the judge a proved implementation is held to, so it is written for a reader: the rules in
 01's order, one short function each.  It shares nothing with the implementation.
@@ -65,18 +65,19 @@ class Relay:
 
 
 class Connection:
-    """What the box holds, 4.
+    """What the box holds, 4; M-103, 2: and whether it is strict.
 
     `joined` holds the bytes taken since the opening, less the whole messages cut off their front.
     """
 
-    __slots__ = ("open", "rank", "monitor", "due", "joined")
+    __slots__ = ("open", "rank", "monitor", "due", "strict", "joined")
 
-    def __init__(self, open=0, rank=0, monitor=0, due=0):
+    def __init__(self, open=0, rank=0, monitor=0, due=0, strict=0):
         self.open = open
         self.rank = rank
         self.monitor = monitor
         self.due = due
+        self.strict = strict
         self.joined = bytearray()
 
 
@@ -301,9 +302,10 @@ class Box:
         """As a number, lowest bit relay 1."""
         return sum(relay.state << k for k, relay in enumerate(self.relays))
 
-    def open(self, c, rank):
-        """Events, 3: nothing half read, Monitor on, and due to a user or administrator.  Answer numbers, 1: the
-        number is judged first, then whether it is open, then the rank.
+    def open(self, c, rank, strict=0):
+        """Events, 3: nothing half read, Monitor on, and due to a user or administrator.  M-103, 2: strict or not,
+        up to its closing; every number but 0 says strict.  Answer numbers, 1: the number is judged first, then
+        whether it is open, then the rank.
         """
         if c > 3:
             return NO_CONNECTION
@@ -311,7 +313,7 @@ class Box:
             return ALREADY_OPEN
         if rank > 2:
             return BAD_RANK
-        self.connections[c] = Connection(1, rank, 1, 1 if rank >= 1 else 0)
+        self.connections[c] = Connection(1, rank, 1, 1 if rank >= 1 else 0, 1 if strict else 0)
         return SERVED
 
     def close(self, c):
@@ -402,7 +404,7 @@ class Box:
         content = message[5:]
         if len(content) > self.LONGEST:
             return TOO_LONG, b""
-        if not self.checksum_passes(number(message[3:5]), content):
+        if not self.checksum_passes(conn, number(message[3:5]), content):
             return BAD_CHECKSUM, b""
         try:
             answer = self.serve(conn, content)
@@ -410,9 +412,11 @@ class Box:
             return refusal.answer, b""
         return SERVED, self.frame(answer) if answer else b""
 
-    def checksum_passes(self, sent, content):
-        """Frame, 3 and 5: that of the content, without the header; 0xFFFF is none."""
-        return sent == 0xFFFF or sent == crc16(content)
+    def checksum_passes(self, conn, sent, content):
+        """Frame, 3 and 5: that of the content, without the header; 0xFFFF is none.  M-103, 3: on a strict connection
+        it is judged like any other.
+        """
+        return sent == 0xFFFF and not conn.strict or sent == crc16(content)
 
     def frame(self, content):
         """Frame, 6: with the true checksum."""
@@ -680,11 +684,11 @@ class Box:
 
     def state(self):
         """`C` clock `I` eight times level,count,usage `R` eight times state,usage `N` four times
-        open,rank,monitor,due,got `P` the queue.
+        open,rank,monitor,due,got,strict `P` the queue.
         """
         inputs = " ".join([f"{i.level},{i.count},{i.usage}" for i in self.inputs])
         relays = " ".join([f"{r.state},{r.usage}" for r in self.relays])
-        connections = " ".join([f"{c.open},{c.rank},{c.monitor},{c.due},{self.got(c)}"
+        connections = " ".join([f"{c.open},{c.rank},{c.monitor},{c.due},{self.got(c)},{c.strict}"
                                 for c in self.connections])
         return f"C {self.clock} I {inputs} R {relays} N {connections} P {self.queue_shown()}"
 
@@ -722,7 +726,7 @@ class Box:
         if name == "pass":
             return str(self.pass_(*numbers(words[:1], (TOP32,)), row_of(words[1:])))
         if name == "open":
-            return str(self.open(*numbers(words, (255, 255))))
+            return str(self.open(*numbers(words[:2], (255, 255)), strict_of(words[2:])))
         if name == "close":
             return str(self.close(*numbers(words, (255,))))
         if name == "state" and not words:
@@ -758,6 +762,11 @@ def numbers(words, tops):
             raise BadLine
         values.append(int(word))
     return values
+
+
+def strict_of(words):
+    """What an opening says of strictness; without a word 0, which is not strict."""
+    return numbers(words, (255,))[0] if words else 0
 
 
 def row_of(words):

@@ -15,8 +15,8 @@ import time
 
 import model
 import traces
-from answers import (BAD_CHECKSUM, BAD_LENGTH, BAD_RANK, KEEP_ALIVE, LOW_RANK, NOT_OFFERED, OUT_OF_RANGE, QUEUE_FULL, SERVED,
-                     SHORT_BUFFER, STRAY, TOO_LONG, WAITING)
+from answers import (ALREADY_OPEN, BAD_CHECKSUM, BAD_LENGTH, BAD_RANK, KEEP_ALIVE, LOW_RANK, NOT_OFFERED, OUT_OF_RANGE, QUEUE_FULL,
+                     SERVED, SHORT_BUFFER, STRAY, TOO_LONG, WAITING)
 from model import Box, Fields, PULSES, Refused, TOP32, TOP64, crc16, field, number
 
 MUTANTS = {}
@@ -225,20 +225,20 @@ class _(Box):
 
 @named("rank judged before the open mark")
 class _(Box):
-    def open(self, c, rank):
-        return BAD_RANK if c <= 3 and rank > 2 else super().open(c, rank)
+    def open(self, c, rank, strict=0):
+        return BAD_RANK if c <= 3 and rank > 2 else super().open(c, rank, strict)
 
 
 @named("rank 3 opened")
 class _(Box):
-    def open(self, c, rank):
-        return super().open(c, 2 if rank == 3 else rank)
+    def open(self, c, rank, strict=0):
+        return super().open(c, 2 if rank == 3 else rank, strict)
 
 
 @named("Monitor due at rank 0")
 class _(Box):
-    def open(self, c, rank):
-        answer = super().open(c, rank)
+    def open(self, c, rank, strict=0):
+        answer = super().open(c, rank, strict)
         if answer == SERVED:
             self.connections[c].due = 1
         return answer
@@ -246,9 +246,9 @@ class _(Box):
 
 @named("half-read message kept over a closing")
 class _(Box):
-    def open(self, c, rank):
+    def open(self, c, rank, strict=0):
         kept = self.kept.get(c, b"") if c <= 3 else b""
-        answer = super().open(c, rank)
+        answer = super().open(c, rank, strict)
         if answer == SERVED:
             self.connections[c].joined = bytearray(kept)
         return answer
@@ -267,9 +267,9 @@ class _(Box):
 
 @named("Monitor switch kept over a closing")
 class _(Box):
-    def open(self, c, rank):
+    def open(self, c, rank, strict=0):
         off = c <= 3 and c in self.off
-        answer = super().open(c, rank)
+        answer = super().open(c, rank, strict)
         if answer == SERVED and off:
             self.connections[c].monitor = 0
         return answer
@@ -445,40 +445,41 @@ class _(OneStore):
 class _(Box):
     def bytes_(self, c, cap, piece, row=PULSES):
         if self.refuse_call(c, cap, row) is None:
-            joined = self.connections[c].joined + piece
+            conn = self.connections[c]
+            joined = conn.joined + piece
             if len(joined) >= 5 and joined[0] == 1:
                 size = number(joined[1:3])
                 early = joined[5:4 + size]
-                if 1 <= size <= 1024 and len(joined) >= 4 + size and not self.checksum_passes(number(joined[3:5]), early):
+                if 1 <= size <= 1024 and len(joined) >= 4 + size and not self.checksum_passes(conn, number(joined[3:5]), early):
                     if crc16(joined[5:5 + size]) != number(joined[3:5]):
-                        taken = max(0, 4 + size - len(self.connections[c].joined))
-                        self.connections[c].joined = bytearray()
+                        taken = max(0, 4 + size - len(conn.joined))
+                        conn.joined = bytearray()
                         return BAD_CHECKSUM, taken, b""
         return super().bytes_(c, cap, piece, row)
 
 
 @named("checksum without the last byte")
 class _(Box):
-    def checksum_passes(self, sent, content):
-        return super().checksum_passes(sent, content[:-1])
+    def checksum_passes(self, conn, sent, content):
+        return super().checksum_passes(conn, sent, content[:-1])
 
 
 @named("checksum 0xFFFF checked")
 class _(Box):
-    def checksum_passes(self, sent, content):
+    def checksum_passes(self, conn, sent, content):
         return sent == crc16(content)
 
 
 @named("checksum 0 passes unchecked")
 class _(Box):
-    def checksum_passes(self, sent, content):
-        return sent == 0 or super().checksum_passes(sent, content)
+    def checksum_passes(self, conn, sent, content):
+        return sent == 0 or super().checksum_passes(conn, sent, content)
 
 
 @named("checksum of N = 0 not judged")
 class _(Box):
-    def checksum_passes(self, sent, content):
-        return not content or super().checksum_passes(sent, content)
+    def checksum_passes(self, conn, sent, content):
+        return not content or super().checksum_passes(conn, sent, content)
 
 
 @named("checksum judged after the type")
@@ -1609,6 +1610,466 @@ class _(Box):
         if row < PULSES:
             self.grow(d)
         return super().pass_(d, row)
+
+
+# -- strict connections: M-103 ---------------------------------------------------------------------------
+
+@named("strictness said by nobody")
+class _(Box):
+    def open(self, c, rank, strict=0):
+        return super().open(c, rank)
+
+
+@named("every opening strict")
+class _(Box):
+    def open(self, c, rank, strict=0):
+        return super().open(c, rank, 1)
+
+
+@named("an opening that says nothing of it is strict")
+class _(Box):
+    def obey(self, name, *words):
+        return super().obey(name, *words, "1") if name == "open" and len(words) == 2 else super().obey(name, *words)
+
+
+@named("strict taken for not strict and the other way")
+class _(Box):
+    def open(self, c, rank, strict=0):
+        return super().open(c, rank, not strict)
+
+
+@named("only 1 says strict")
+class _(Box):
+    def open(self, c, rank, strict=0):
+        return super().open(c, rank, strict == 1)
+
+
+@named("only the lowest bit says strict")
+class _(Box):
+    def open(self, c, rank, strict=0):
+        return super().open(c, rank, strict & 1)
+
+
+@named("strictness from 128 on taken for below 0")
+class _(Box):
+    def open(self, c, rank, strict=0):
+        return super().open(c, rank, 0 < strict < 128)
+
+
+@named("strictness above 1 refused as a rank is")
+class _(Box):
+    def open(self, c, rank, strict=0):
+        return super().open(c, 3 if strict > 1 else rank, strict)
+
+
+@named("strictness above 1 taken for a bad line")
+class _(Box):
+    def obey(self, name, *words):
+        if name == "open" and len(words) == 3 and words[2].isdigit() and int(words[2]) > 1:
+            raise model.BadLine
+        return super().obey(name, *words)
+
+
+@named("strictness held as it was said")
+class _(Box):
+    def open(self, c, rank, strict=0):
+        answer = super().open(c, rank, strict)
+        if answer == SERVED:
+            self.connections[c].strict = strict
+        return answer
+
+
+@named("strictness written over the due mark")
+class _(Box):
+    def open(self, c, rank, strict=0):
+        answer = super().open(c, rank, strict)
+        if answer == SERVED:
+            self.connections[c].due = self.connections[c].strict
+        return answer
+
+
+@named("strictness written over the Monitor switch")
+class _(Box):
+    def open(self, c, rank, strict=0):
+        answer = super().open(c, rank, strict)
+        if answer == SERVED and strict:
+            self.connections[c].monitor = 0
+        return answer
+
+
+@named("only administrators' connections strict")
+class _(Box):
+    def open(self, c, rank, strict=0):
+        return super().open(c, rank, strict if rank == 2 else 0)
+
+
+@named("connections of rank 0 not strict")
+class _(Box):
+    def open(self, c, rank, strict=0):
+        return super().open(c, rank, strict if rank else 0)
+
+
+@named("an opening takes the others' strictness away")
+class _(Box):
+    def open(self, c, rank, strict=0):
+        answer = super().open(c, rank, strict)
+        if answer == SERVED:
+            for other in self.connections[:c] + self.connections[c + 1:]:
+                other.strict = 0
+        return answer
+
+
+@named("an opening is strict if another connection is")
+class _(Box):
+    def open(self, c, rank, strict=0):
+        return super().open(c, rank, strict or any(conn.strict for conn in self.connections))
+
+
+@named("strictness left at a closing")
+class _(Box):
+    def close(self, c):
+        strict = self.is_open(c) and self.connections[c].strict
+        answer = super().close(c)
+        if answer == SERVED:
+            self.connections[c].strict = strict
+        return answer
+
+
+@named("strictness kept over a closing")
+class _(Box):
+    def open(self, c, rank, strict=0):
+        return super().open(c, rank, strict or c in self.once)
+
+    def close(self, c):
+        if self.is_open(c) and self.connections[c].strict:
+            self.once.add(c)
+        return super().close(c)
+
+    def power(self, *settings):
+        super().power(*settings)
+        self.once = set()
+
+
+@named("strictness kept over power-up")
+class _(Box):
+    def power(self, *settings):
+        kept = [conn.strict for conn in getattr(self, "connections", ())]
+        super().power(*settings)
+        for conn, strict in zip(self.connections, kept):
+            conn.strict = strict
+
+
+@named("a closing takes the others' strictness away")
+class _(Box):
+    def close(self, c):
+        answer = super().close(c)
+        if answer == SERVED:
+            for conn in self.connections:
+                conn.strict = 0
+        return answer
+
+
+@named("opening an open one changes its strictness")
+class _(Box):
+    def open(self, c, rank, strict=0):
+        answer = super().open(c, rank, strict)
+        if answer == ALREADY_OPEN:
+            self.connections[c].strict = 1 if strict else 0
+        return answer
+
+
+@named("a bad rank leaves its strictness on the shut connection")
+class _(Box):
+    def open(self, c, rank, strict=0):
+        answer = super().open(c, rank, strict)
+        if answer == BAD_RANK:
+            self.connections[c].strict = 1 if strict else 0
+        return answer
+
+
+@named("a bad rank's strictness waits for the next opening")
+class _(Box):
+    def open(self, c, rank, strict=0):
+        answer = super().open(c, rank, strict or c in self.tried)
+        if answer == BAD_RANK and strict:
+            self.tried.add(c)
+        elif answer == SERVED:
+            self.tried.discard(c)
+        return answer
+
+    def power(self, *settings):
+        super().power(*settings)
+        self.tried = set()
+
+
+@named("request 4 takes strictness away")
+class _(Box):
+    def request(self, conn, fields):
+        answer = super().request(conn, fields)
+        if fields.content[1:3] == b"\x00\x04":
+            conn.strict = 0
+        return answer
+
+
+@named("request 5 takes strictness away")
+class _(Box):
+    def request(self, conn, fields):
+        answer = super().request(conn, fields)
+        if fields.content[1:3] == b"\x00\x05":
+            conn.strict = 0
+        return answer
+
+
+@named("a collection takes strictness away")
+class _(Box):
+    def collect(self, c, cap):
+        answer = super().collect(c, cap)
+        if answer[0] == SERVED:
+            self.connections[c].strict = 0
+        return answer
+
+
+@named("a due mark takes strictness away")
+class _(Box):
+    def changed(self):
+        super().changed()
+        for conn in self.connections:
+            if conn.due:
+                conn.strict = 0
+
+
+@named("a bad checksum takes strictness away")
+class _(Box):
+    def judge(self, conn, message):
+        answer, reply = super().judge(conn, message)
+        if answer == BAD_CHECKSUM:
+            conn.strict = 0
+        return answer, reply
+
+
+@named("strictness lasts for one message")
+class _(Box):
+    def checksum_passes(self, conn, sent, content):
+        passes = super().checksum_passes(conn, sent, content)
+        conn.strict = 0
+        return passes
+
+
+@named("a true checksum makes a connection strict")
+class _(Box):
+    def checksum_passes(self, conn, sent, content):
+        conn.strict = 1 if sent == crc16(content) else conn.strict
+        return super().checksum_passes(conn, sent, content)
+
+
+class Judging(Box):
+    """A box that asks by a rule of its own whether a message is held to strictness.  `strict_for` gives what it goes by."""
+
+    def checksum_passes(self, conn, sent, content):
+        return sent == crc16(content) or sent == 0xFFFF and not self.strict_for(conn, content)
+
+
+@named("strictness held and not looked at")
+class _(Judging):
+    def strict_for(self, conn, content):
+        return False
+
+
+@named("connection 0's strictness goes for all")
+class _(Judging):
+    def strict_for(self, conn, content):
+        return self.connections[0].strict
+
+
+@named("the next connection's strictness looked at")
+class _(Judging):
+    def strict_for(self, conn, content):
+        return self.connections[(self.connections.index(conn) + 1) % 4].strict
+
+
+@named("one strict connection makes all strict")
+class _(Judging):
+    def strict_for(self, conn, content):
+        return any(other.strict for other in self.connections)
+
+
+@named("strict only where all open ones are")
+class _(Judging):
+    def strict_for(self, conn, content):
+        return all(other.strict for other in self.connections if other.open)
+
+
+@named("the strictness of the last opening goes for all")
+class _(Judging):
+    def open(self, c, rank, strict=0):
+        answer = super().open(c, rank, strict)
+        if answer == SERVED:
+            self.last = strict
+        return answer
+
+    def power(self, *settings):
+        super().power(*settings)
+        self.last = 0
+
+    def strict_for(self, conn, content):
+        return self.last
+
+
+@named("only commands held to strictness")
+class _(Judging):
+    def strict_for(self, conn, content):
+        return conn.strict and content[:1] == b"\x0A"
+
+
+@named("requests not held to strictness")
+class _(Judging):
+    def strict_for(self, conn, content):
+        return conn.strict and content[:1] != b"\x05"
+
+
+@named("only what changes something held to strictness")
+class _(Judging):
+    def strict_for(self, conn, content):
+        return conn.strict and content[:1] in (b"\x07", b"\x0A", b"\x17")
+
+
+@named("administrators not held to strictness")
+class _(Judging):
+    def strict_for(self, conn, content):
+        return conn.strict and conn.rank < 2
+
+
+@named("N = 0 not held to strictness")
+class _(Judging):
+    def strict_for(self, conn, content):
+        return conn.strict and content
+
+
+@named("type judged before strictness")
+class _(Judging):
+    def strict_for(self, conn, content):
+        return conn.strict and (not content or content[0] in self.OFFERED)
+
+
+@named("rank judged before strictness")
+class _(Judging):
+    def strict_for(self, conn, content):
+        offered = content and content[0] in self.OFFERED
+        return conn.strict and not (offered and conn.rank < self.rank_needed(content[0]))
+
+
+@named("a message whole in its piece not held to strictness")
+class _(Judging):
+    def bytes_(self, c, cap, piece, row=PULSES):
+        self.whole = self.is_open(c) and not self.connections[c].joined
+        return super().bytes_(c, cap, piece, row)
+
+    def strict_for(self, conn, content):
+        return conn.strict and not self.whole
+
+
+@named("a message in several pieces not held to strictness")
+class _(Judging):
+    def bytes_(self, c, cap, piece, row=PULSES):
+        self.whole = self.is_open(c) and not self.connections[c].joined
+        return super().bytes_(c, cap, piece, row)
+
+    def strict_for(self, conn, content):
+        return conn.strict and self.whole
+
+
+@named("0xFFFF refused on strict connections though it is true")
+class _(Box):
+    def checksum_passes(self, conn, sent, content):
+        return not (conn.strict and sent == 0xFFFF) and super().checksum_passes(conn, sent, content)
+
+
+@named("a true checksum of 0xFFFF refused wherever it comes")
+class _(Box):
+    def checksum_passes(self, conn, sent, content):
+        return not (sent == crc16(content) == 0xFFFF) and super().checksum_passes(conn, sent, content)
+
+
+@named("0xFFFF looked for in the true checksum")
+class _(Box):
+    def checksum_passes(self, conn, sent, content):
+        return crc16(content) == 0xFFFF and not conn.strict or super().checksum_passes(conn, sent, content)
+
+
+@named("a strict connection holds 0xFFFF alone to the content")
+class _(Box):
+    def checksum_passes(self, conn, sent, content):
+        return conn.strict and sent != 0xFFFF or super().checksum_passes(conn, sent, content)
+
+
+@named("0 stands for no checksum on strict connections")
+class _(Box):
+    def checksum_passes(self, conn, sent, content):
+        return conn.strict and sent == 0 or super().checksum_passes(conn, sent, content)
+
+
+@named("N = 0 refused by its checksum on strict connections")
+class _(Box):
+    def checksum_passes(self, conn, sent, content):
+        return not (conn.strict and not content) and super().checksum_passes(conn, sent, content)
+
+
+@named("strictness judged before the limit")
+class _(Box):
+    def judge(self, conn, message):
+        answer, reply = super().judge(conn, message)
+        if answer == TOO_LONG and conn.strict and message[3:5] == b"\xFF\xFF":
+            return BAD_CHECKSUM, b""
+        return answer, reply
+
+
+@named("strictness judged at the header")
+class _(Box):
+    def bytes_(self, c, cap, piece, row=PULSES):
+        if self.refuse_call(c, cap, row) is None and self.connections[c].strict:
+            conn = self.connections[c]
+            begun = conn.joined + piece
+            if begun[:1] == b"\x01" and begun[3:5] == b"\xFF\xFF" and self.message_end(begun) is None:
+                taken = 5 - len(conn.joined)
+                conn.joined = bytearray()
+                return BAD_CHECKSUM, taken, b""
+        return super().bytes_(c, cap, piece, row)
+
+
+@named("a message is done before strictness refuses it")
+class _(Judging):
+    def strict_for(self, conn, content):
+        return False
+
+    def judge(self, conn, message):
+        answer, reply = super().judge(conn, message)
+        judged = message[0] == 1 and answer != TOO_LONG
+        refused = judged and conn.strict and not Box.checksum_passes(self, conn, number(message[3:5]), message[5:])
+        return (BAD_CHECKSUM, b"") if refused else (answer, reply)
+
+
+@named("strict refusal: half-read message not cleared")
+class _(Box):
+    def judge(self, conn, message):
+        answer, reply = super().judge(conn, message)
+        if answer == BAD_CHECKSUM and message[3:5] == b"\xFF\xFF":
+            conn.joined = bytearray(message[:5])
+        return answer, reply
+
+
+@named("strict refusal: all of the piece taken")
+class _(Box):
+    def bytes_(self, c, cap, piece, row=PULSES):
+        answer, taken, reply = super().bytes_(c, cap, piece, row)
+        strictly = answer == BAD_CHECKSUM and self.connections[c].strict
+        return answer, len(piece) if strictly else taken, reply
+
+
+@named("strict refusal answered as a type that is not offered")
+class _(Box):
+    def judge(self, conn, message):
+        answer, reply = super().judge(conn, message)
+        return NOT_OFFERED if answer == BAD_CHECKSUM and message[3:5] == b"\xFF\xFF" else answer, reply
 
 
 # -- lines -------------------------------------------------------------------------------------------

@@ -4,7 +4,7 @@
     python3 tests/test_model.py
 
 Expected values are those of 01-scope.md, REPLAY.md and 001; the sentence's place in 01 stands with each check, counted as in
-model.py.  Those of request M-100 of 02 are worked out by hand from its text, and the reason stands with each.
+model.py.  Those of requests M-100 and M-103 of 02 are worked out by hand from their text, and the reason stands with each.
 """
 
 import os
@@ -194,7 +194,7 @@ class ReplayPage(unittest.TestCase):
         ("open 0 2", "1"),
         ("bytes 0 4096 010004FFFF0A0A0505", "1 9 0 -"),
         ("state", "C 0 I 0,0,0 0,0,0 0,0,0 0,0,0 0,0,0 0,0,0 0,0,0 0,0,0 R 1,0 0,0 1,0 0,0 0,0 0,0 0,0 0,0 "
-                  "N 1,2,1,1,0 0,0,0,0,0 0,0,0,0,0 0,0,0,0,0 P 0"),
+                  "N 1,2,1,1,0,0 0,0,0,0,0,0 0,0,0,0,0,0 0,0,0,0,0,0 P 0"),
         ("bytes 0 4095 06", "4 0 0 -"),
         ("bytes 0 4096 0601", "2 1 0 -"),
         ("pass 7", "1"),
@@ -227,7 +227,8 @@ class ReplayPage(unittest.TestCase):
         """Every number that fits its type is handed on, those that the box refuses too."""
         box = Box()
         for line, printed in (("open 255 255", "3"), ("open 3 255", "13"), ("close 255", "3"), ("level 255 255", "11"),
-                              ("pass 4294967295", "1"), ("pass 0", "1"), ("open 3 2", "1"), ("open 3 255", "12"),
+                              ("pass 4294967295", "1"), ("pass 0", "1"), ("open 3 2 255", "1"), ("open 3 255", "12"),
+                              ("open 255 255 255", "3"), ("open 2 255 255", "13"), ("open 2 0 0", "1"), ("open 2 0 256", "?"),
                               ("bytes 3 65536 06", "2 1 0 -"), ("bytes 3 0 06", "4 0 0 -"), ("bytes 3 4096 -", "0 0 0 -")):
             self.assertEqual(box.line(line), printed, line)
 
@@ -250,14 +251,24 @@ class ReplayPage(unittest.TestCase):
         box.line("open 1 0")
         for piece, got in (("01", 1), ("00", 2), ("02FF", 4), ("FF", 5), ("06", 6), ("0101", 0)):
             box.line(f"bytes 1 4096 {piece}")
-            self.assertEqual(self.connection_1(box), f"1,0,1,0,{got}")
+            self.assertEqual(self.connection_1(box), f"1,0,1,0,{got},0")
         box.line("bytes 1 4096 01FFFF0000" + "06" * 65534)
-        self.assertEqual(self.connection_1(box), f"1,0,1,0,{5 + 65535 - 1}")
+        self.assertEqual(self.connection_1(box), f"1,0,1,0,{5 + 65535 - 1},0")
         self.assertEqual(box.line("bytes 1 4096 0606"), "6 1 0 -")
-        self.assertEqual(self.connection_1(box), "1,0,1,0,0")
+        self.assertEqual(self.connection_1(box), "1,0,1,0,0,0")
         box.line("bytes 1 4096 0100")
         box.line("close 1")
-        self.assertEqual(self.connection_1(box), "0,0,0,0,0")
+        self.assertEqual(self.connection_1(box), "0,0,0,0,0,0")
+
+    def test_strict(self):
+        """Any number but 0 shows as 1, and whatever was said of a shut connection as 0."""
+        box = Box()
+        for line, shown in (("open 1 0", "1,0,1,0,0,0"), ("close 1", "0,0,0,0,0,0"), ("open 1 2 1", "1,2,1,1,0,1"),
+                            ("close 1", "0,0,0,0,0,0"), ("open 1 1 255", "1,1,1,1,0,1"), ("open 1 1 0", "1,1,1,1,0,1"),
+                            ("close 1", "0,0,0,0,0,0"), ("open 1 3 1", "0,0,0,0,0,0"), ("open 1 0 0", "1,0,1,0,0,0"),
+                            ("open 1 0 1", "1,0,1,0,0,0")):
+            box.line(line)
+            self.assertEqual(self.connection_1(box), shown, line)
 
 
 class Published(Case):
@@ -309,7 +320,7 @@ class BoxAndEvents(Case):
 
     def test_power_up(self):
         """What the box holds, 5."""
-        zeros = " ".join(["0,0,0"] * 8), " ".join(["0,0"] * 8), " ".join(["0,0,0,0,0"] * 4)
+        zeros = " ".join(["0,0,0"] * 8), " ".join(["0,0"] * 8), " ".join(["0,0,0,0,0,0"] * 4)
         self.assertEqual(Box().state(), "C 0 I %s R %s N %s P 0" % zeros)
 
     def test_alarm_state(self):
@@ -1020,6 +1031,136 @@ class Pulses(Case):
         self.assertEqual(self.queue(), "0")
 
 
+class Strict(Case):
+    """02, M-103.  Connection 1 is strict, connection 0 is not; both are at rank 2."""
+
+    def setUp(self):
+        super().setUp()
+        self.box.open(1, 2, 1)
+        self.box.collect(1, 4096)
+
+    def true(self, hexadecimal, c=1):
+        return self.answer(hexadecimal, c, crc16(bytes.fromhex(hexadecimal)))
+
+    def test_published_frames(self):
+        """001's own checksums pass, so that it is the types that are refused; with 0xFFFF none of them gets so far."""
+        for text in Published.FRAMES:
+            frame = bytes.fromhex(text)
+            unchecked = frame[:3] + b"\xFF\xFF" + frame[5:]
+            for c, answers in ((0, (NOT_OFFERED, NOT_OFFERED)), (1, (NOT_OFFERED, BAD_CHECKSUM))):
+                for message, answer in zip((frame, unchecked), answers):
+                    self.assertEqual(self.box.bytes_(c, 4096, message + b"\x06"), (answer, len(frame), b""))
+
+    def test_refused_and_then_served(self):
+        """What is refused has changed nothing, and the next message is read from its start."""
+        before = self.box.state()
+        self.assertEqual(self.content("0A0A0505", 1), (BAD_CHECKSUM, ""))
+        self.assertEqual(self.box.state(), before)
+        self.assertEqual(self.feed("01000489E00A0A0505", 1), (SERVED, 9, b""), "0x89E0 by 001's rule, a bit at a time")
+        self.assertEqual(self.relays(), "00000101")
+
+    def test_every_type(self):
+        """Commands, and all the others: those that only ask too."""
+        contents = ("050000", "050001", "050002", "050004", "050005", "0700000000000000AA", "0A010001", "0A0AFFFF", "0A06000100000001",
+                    "0A07FFFF00000001", "150000", "170000", "1A01", "63")
+        for content in contents:
+            before = self.box.state()
+            self.assertEqual(self.content(content, 1), (BAD_CHECKSUM, ""), content)
+            self.assertEqual(self.box.state(), before)
+        for content in contents:
+            self.assertEqual(self.true(content), NOT_OFFERED if content == "63" else SERVED, content)
+
+    def test_every_other_wrong_checksum(self):
+        """One bit off is refused on both, as ever."""
+        true = crc16(bytes.fromhex("0A030001"))
+        for bit in range(16):
+            for c in (0, 1):
+                self.assertEqual(self.answer("0A030001", c, true ^ 1 << bit), BAD_CHECKSUM)
+        self.assertEqual(self.relays(), "00000000")
+
+    def test_0xffff_where_it_is_true(self):
+        """Of the 65,536 blocks one has this checksum, and no strict connection can tell: mask 11010001, states 10110010."""
+        blocks = [block for block in range(65536) if crc16(b"\x0A\x0A" + field(block, 2)) == 0xFFFF]
+        self.assertEqual(blocks, [0xD1B2])
+        self.assertEqual(self.answer("0A0AD1B2", 1), SERVED)
+        self.assertEqual(self.relays(), "10010000")
+        for sent in (0xFFFE, 0x7FFF, 0x0000):
+            self.assertEqual((self.answer("0A0AD1B2", 0, sent), self.answer("0A0AD1B2", 1, sent)), (BAD_CHECKSUM,) * 2)
+
+    def test_n_0(self):
+        """No bytes have the checksum 0.  Edges, 7 holds of the connection that is not strict."""
+        for sent, c, answer in (("FFFF", 1, BAD_CHECKSUM), ("FFFF", 0, NOT_OFFERED), ("0000", 1, NOT_OFFERED), ("0001", 1, BAD_CHECKSUM)):
+            self.assertEqual(self.feed("010000" + sent, c), (answer, 5, b""))
+
+    def test_old_place(self):
+        """After what is lent and the limit, before type, rank, length and numbers."""
+        self.box.open(2, 0, 1)
+        frame = traces.framed(bytes.fromhex("0A030001"), 0xFFFF)
+        self.assertEqual(self.box.bytes_(1, 4095, frame), (SHORT_BUFFER, 0, b""))
+        self.assertEqual(self.box.bytes_(1, 4096, frame, 30), (SHORT_BUFFER, 0, b""))
+        self.assertEqual(self.answer("63" + "00" * 1024, 1), TOO_LONG)
+        self.assertEqual(self.answer("63" + "00" * 1023, 1), BAD_CHECKSUM)
+        for content, answer in (("63", NOT_OFFERED), ("0A030001", LOW_RANK)):
+            self.assertEqual((self.answer(content, 2), self.true(content, 2)), (BAD_CHECKSUM, answer))
+        for content, answer in (("0A0300", BAD_LENGTH), ("0A030009", OUT_OF_RANGE)):
+            self.assertEqual((self.answer(content, 1), self.true(content, 1)), (BAD_CHECKSUM, answer))
+        self.assertEqual((self.feed("06", 1), self.feed("07", 1)), ((KEEP_ALIVE, 1, b""), (STRAY, 1, b"")))
+
+    def test_full_queue(self):
+        """The last refusal of all: 0xFFFF is refused before it, and the true checksum comes so far."""
+        for _ in range(31):
+            self.true("0A06000100000001")
+        self.assertEqual((self.answer("0A06000100000001", 1), self.true("0A06000100000001")), (BAD_CHECKSUM, QUEUE_FULL))
+
+    def test_cut_anywhere(self):
+        """Nothing is said before the last byte; the other connection is served in between."""
+        frame = bytes.fromhex("010004FFFF0A030001")
+        for middle in range(1, len(frame)):
+            self.assertEqual(self.box.bytes_(1, 4096, frame[:middle]), (WAITING, middle, b""))
+            self.assertEqual(self.box.bytes_(0, 4096, frame), (SERVED, 9, b""))
+            self.assertEqual(self.box.bytes_(1, 4096, frame[middle:]), (BAD_CHECKSUM, 9 - middle, b""))
+            self.assertEqual(self.box.bytes_(0, 4096, frame[:middle]), (WAITING, middle, b""))
+            self.assertEqual(self.box.bytes_(1, 4096, frame), (BAD_CHECKSUM, 9, b""))
+            self.assertEqual(self.box.bytes_(0, 4096, frame[middle:]), (SERVED, 9 - middle, b""))
+        self.assertEqual(self.relays(), "00000000", "relay 1 toggled 16 times")
+
+    def test_what_says_strict(self):
+        """Every byte but 0."""
+        for strict in range(256):
+            self.box.close(1)
+            self.assertEqual(self.box.open(1, 1, strict), SERVED)
+            self.assertEqual(self.answer("0A0A0000", 1), BAD_CHECKSUM if strict else SERVED)
+
+    def test_each_connection_its_own(self):
+        for strict in range(16):
+            self.box.power()
+            for c in range(4):
+                self.box.open(c, 1, strict >> c & 1)
+            answers = [BAD_CHECKSUM if strict >> c & 1 else SERVED for c in range(4)]
+            self.assertEqual([self.answer("0A0A0000", c) for c in range(4)], answers)
+
+    def test_until_it_is_closed(self):
+        """Neither requests nor marks, collections, refusals or refused openings change it; the next opening says it anew."""
+        for content in ("050004", "050005", "0A030001", "63"):
+            self.true(content)
+        self.box.level(1, 1)
+        self.assertEqual(self.box.collect(1, 4096)[0], SERVED)
+        self.assertEqual((self.box.open(1, 2, 0), self.box.open(1, 3, 0), self.box.open(0, 2, 1)), (ALREADY_OPEN,) * 3)
+        self.assertEqual((self.answer("0A0A0000", 1), self.answer("0A0A0000", 0)), (BAD_CHECKSUM, SERVED))
+        for strict, answer in ((0, SERVED), (1, BAD_CHECKSUM), (0, SERVED)):
+            self.assertEqual(self.box.close(1), SERVED)
+            self.assertEqual((self.box.open(1, 3, 1 - strict), self.box.open(4, 2, 1)), (BAD_RANK, NO_CONNECTION))
+            self.assertEqual(self.box.open(1, 2, strict), SERVED)
+            self.assertEqual(self.answer("0A0A0000", 1), answer)
+
+    def test_half_a_message_over_a_closing(self):
+        """It is forgotten, and what comes next is judged by the new opening."""
+        self.feed("010004FFFF0A03", 1)
+        self.box.close(1)
+        self.box.open(1, 2)
+        self.assertEqual(self.feed("010004FFFF0A030001", 1), (SERVED, 9, b""))
+
+
 class TimeByTheMs(unittest.TestCase):
     """M-100, 4: d ms are d times one.  The model takes several in one step; here it is held to one at a time."""
 
@@ -1095,6 +1236,35 @@ class TimeByTheMs(unittest.TestCase):
 
 
 class Tools(unittest.TestCase):
+    def test_truly_0xffff(self):
+        """The checksum is 0xFFFF, and only the last two bytes are others."""
+        for content in (b"\x00\x00", b"\x0A\x0A\x00\x00", b"\x07" + bytes(8), bytes(range(256)) * 4):
+            found = traces.truly_0xffff(content)
+            self.assertEqual((crc16(found), found[:-2], len(found)), (0xFFFF, content[:-2], len(content)))
+
+    def test_strict_traces(self):
+        """On strict connections and on the others: served with the true checksum, refused or served with 0xFFFF, and
+        0xFFFF where it is true.  Otherwise the traces would show nothing."""
+        seen = {}
+
+        class Counting(Box):
+            def judge(self, conn, message):
+                answer, reply = super().judge(conn, message)
+                if message[0] == 1 and len(message) <= 5 + 1024:
+                    sent, true = message[3:5], field(crc16(message[5:]), 2)
+                    kind = (conn.strict, sent == b"\xFF\xFF", sent == true, answer == SERVED)
+                    seen[kind] = seen.get(kind, 0) + 1
+                return answer, reply
+
+        for trace in traces.many("strict", 20000):
+            box = Counting()
+            for line in trace.lines:
+                box.line(line)
+        for kind in ((1, False, True, True), (1, False, False, False), (1, True, False, False), (1, True, True, True),
+                     (0, False, True, True), (0, False, False, False), (0, True, False, True), (0, True, True, True)):
+            self.assertGreater(seen[kind], 30, kind)
+        self.assertNotIn((1, True, False, True), seen)
+
     def test_same_seed_same_trace(self):
         self.assertEqual(traces.make("a", 300), traces.make("a", 300))
         self.assertNotEqual(traces.make("a", 300).lines, traces.make("b", 300).lines)

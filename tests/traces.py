@@ -36,6 +36,21 @@ def framed(content, sent=None, length=None):
     return b"\x01" + field(length, 2) + field(sent, 2) + content
 
 
+UNCHECKED = 0xFFFF
+
+# Two bytes, as a number with the low byte first, whose checksum is 0xFFFF.
+ENDING = next(ending for ending in range(65536) if crc16(ending.to_bytes(2, "little")) == UNCHECKED)
+
+
+def truly_0xffff(content):
+    """The content with another end, so that its true checksum is 0xFFFF.
+
+    Two more bytes do to a checksum what they do to none, once it is put over them (exclusive or), low byte first.
+    """
+    begun = content[:-2]
+    return begun + (ENDING ^ crc16(begun)).to_bytes(2, "little")
+
+
 KNOWN_IDS = INPUT_IDS + RELAY_IDS
 
 # Each of them is next to a known one in some way: one too low or high, another low byte, a bit above,
@@ -51,7 +66,8 @@ WRONG_TYPES = (0, 1, 2, 3, 4, 6, 8, 9, 11, 12, 13, 14, 15, 16, 17, 18, 19, 20, 2
 
 BAD_LINES = (
     "", " ", "?", "-", "0", "hello", "POWER", "power 1", "power 0 0 0", "power on", "Open 0 2", "open", "open 0",
-    "open 0 2 1", "open 256 1", "open 0 256", "open x 1", "open 0 -1", "open 99999999999999999999999 1",
+    "open 256 1", "open 0 256", "open x 1", "open 0 -1", "open 99999999999999999999999 1", "open 0 2 256", "open 0 2 -1",
+    "open 0 2 -", "open 0 2 x", "open 0 2 strict", "open 0 2 ", "open 0 2 1 1", "open 0 2  1", "open 0 256 1", "open 256 2 1",
     "close", "close 256", "close 0 0", "close -", "level 1", "level 256 0", "level 1 256", "level 1 1 1",
     "level one 1", "pass", "pass -1", "pass 4294967296", "pass 18446744073709551616", "pass x", "pass 1.5", "pass 1 ",
     "pass 1 65", "pass 1 -", "pass 1 -1", "pass 1 x", "pass 1 31 31", "pass 4294967296 31", "collect 0",
@@ -74,6 +90,7 @@ class Maker:
         self.printed = []
         self.events = 0
         self.waiting = [b""] * 4                    # bytes of each connection not taken so far
+        self.checked = False                        # whether messages are made for a strict connection
 
     # -- small choices ---------------------------------------------------------------------------
 
@@ -174,13 +191,19 @@ class Maker:
             c = self.rng.randrange(4)
         else:
             c = self.pick(4, 5, 128, 255, self.rng.randrange(256))
-        self.say(f"open {c} {self.bad_rank() if self.one_in(4) else self.rank()}")
+        self.say(f"open {c} {self.bad_rank() if self.one_in(4) else self.rank()}{self.strict()}")
+
+    def strict(self):
+        """The word that says whether an opening is strict; often none, for one that is not."""
+        if self.one_in(2):
+            return ""
+        return f" {self.pick(0, 0, 1, 1, 1, 2, 3, 128, 254, 255, self.rng.randrange(256))}"
 
     def open_again(self, c):
         """Sometimes a bad rank is tried first."""
         while self.one_in(3):
-            self.say(f"open {c} {self.bad_rank()}")
-        self.say(f"open {c} {self.rank()}")
+            self.say(f"open {c} {self.bad_rank()}{self.strict()}")
+        self.say(f"open {c} {self.rank()}{self.strict()}")
 
     def do_close(self):
         """Rather one with half a message.  What was not taken is mostly forgotten with it."""
@@ -286,6 +309,7 @@ class Maker:
 
     def new_bytes(self, c):
         """The rest of a message whose header nobody meant, or one or more new messages."""
+        self.checked = self.box.connections[c].strict == 1
         missing = self.missing(c)
         if missing and not self.one_in(4):
             return self.filler(missing)
@@ -345,6 +369,8 @@ class Maker:
         content = self.weighted(self.CONTENTS)(self)
         if self.one_in(6):
             content = self.off_length(content)
+        if len(content) > 3 and self.one_in(20):
+            content = truly_0xffff(content)
         return framed(content, self.checksum(content))
 
     def off_length(self, content):
@@ -355,11 +381,12 @@ class Maker:
         return (content + self.pick(bytes(by), self.rng.randbytes(by)))[:1024]
 
     def checksum(self, content):
+        """To a strict connection less often 0xFFFF, which it refuses unless it is the true one."""
         chance = self.rng.randrange(100)
-        if chance < 60:
+        if chance < (78 if self.checked else 60):
             return None                                         # the true one
         if chance < 90:
-            return 0xFFFF
+            return UNCHECKED
         return self.bad_checksum(content)
 
     def bad_checksum(self, content):
@@ -639,6 +666,59 @@ class Maker:
             self.say(self.pick("state", f"collect {c} 4096"))
             self.send(c, b"\x0A\x03" + field(self.rng.randrange(1, 9), 2))
         self.say(f"collect {c} 4096")
+        self.offer(c, self.unchecked(), 4096)                   # strict or not as before all this
+
+    def unchecked(self):
+        """A message whose checksum is said to be 0xFFFF and mostly is not."""
+        content = b"\x0A\x03" + field(self.rng.randrange(1, 9), 2)
+        return framed(self.pick(content, content, self.weighted(self.CONTENTS)(self), self.free_end(), b"\x63", b""), UNCHECKED)
+
+    def free_end(self):
+        """A content that may end in any two bytes, of each type that has one and of one that is not offered; it ends in those for which
+        its checksum is 0xFFFF.
+        """
+        entry = field(self.rng.choice(INPUT_IDS), 8) + b"\x00\x05" + bytes([self.pick(2, 3, 6, 7)])
+        begun = self.pick(b"\x0A\x0A", b"\x05\x00" + bytes([self.pick(0, 1, 2, 5)]) + self.rng.randbytes(2),
+                          b"\x07" + self.rng.randbytes(6), b"\x0A\x06" + field(self.rng.randrange(1, 9), 2) + b"\x00\x00",
+                          b"\x0A\x07" + self.rng.randbytes(2) + b"\x00\x00", b"\x15\x00\x01" + self.rng.randbytes(6),
+                          b"\x17\x00\x01" + entry + self.rng.randbytes(2), b"\x63" + self.rng.randbytes(3))
+        return truly_0xffff(begun + b"\x00\x00")
+
+    def scene_truly_0xffff(self, c):
+        """0xFFFF where it is true, where a bit of the content is off, and a true 0xFFFF of which a bit is off."""
+        content = self.free_end()
+        bit = 1 << self.rng.randrange(8)
+        for said, sent in ((content, UNCHECKED), (content[:-1] + bytes([content[-1] ^ bit]), UNCHECKED),
+                           (content, UNCHECKED ^ bit << self.pick(0, 8))):
+            self.offer(c, framed(said, sent), 4096)
+
+    def scene_strict_anew(self, c):
+        """Opened anew with other words, and in between openings that are refused: each time something unchecked."""
+        for _ in range(self.pick(2, 3)):
+            self.say(f"open {c} {self.pick(self.rank(), self.bad_rank())} {1 - self.box.connections[c].strict}")
+            self.offer(c, self.unchecked(), 4096)
+            self.say(f"close {c}")
+            if self.one_in(2):
+                self.say(f"open {c} {self.bad_rank()} {self.pick(0, 1, 255)}")
+            self.say(f"open {c} {self.pick(1, 2)}{self.strict()}")
+            self.offer(c, self.unchecked(), 4096)
+
+    def scene_two_strictnesses(self, c):
+        """One connection strict, another not.  Something unchecked comes to one of them in two parts, to the other in between."""
+        d = self.rng.choice([d for d in range(4) if d != c])
+        first, second = self.pick((c, d), (d, c))
+        for e, strict in ((first, self.pick(1, 2, 128, 255)), (second, 0)):
+            self.say(f"close {e}")
+            self.say(f"open {e} {self.pick(1, 2)} {strict}")
+            self.waiting[e] = b""
+        cut, whole = self.pick((first, second), (second, first))
+        message = self.unchecked()
+        middle = self.rng.randrange(1, len(message))
+        self.offer(cut, message[:middle], 4096)
+        self.offer(whole, self.unchecked(), 4096)
+        self.offer(cut, message[middle:], 4096)
+        self.send(whole, self.command_content())
+        self.say("state")
 
     def scene_half_and_close(self, c):
         """Half a message, close, open, the other half."""
@@ -646,7 +726,7 @@ class Maker:
         middle = self.rng.randrange(1, len(message))
         self.offer(c, message[:middle], 4096)
         self.say(f"close {c}")
-        self.say(f"open {c} {self.pick(1, 2)}")
+        self.say(f"open {c} {self.pick(1, 2)}{self.strict()}")
         self.waiting[c] = message[middle:] if len(message) - middle < 20 else b""
 
     def scene_two_halves(self, c):
@@ -675,7 +755,7 @@ class Maker:
             self.send(c, self.clock_setting())
         elif meanwhile == 1:
             self.say(f"close {c}")
-            self.say(f"open {c} {self.pick(1, 2)}")
+            self.say(f"open {c} {self.pick(1, 2)}{self.strict()}")
         elif meanwhile == 2:
             self.send(c, b"\x17\x00\x01" + field(RELAY_IDS[k], 8) + b"\x00\x02\x01" + bytes([1 - self.box.relays[k].state]))
         elif meanwhile == 3:
@@ -729,6 +809,7 @@ class Maker:
                             b"\x0A\x0A\x06\x06", b"\x0A\x0A\x01\x01", b"\x0A\x06\x00\x01\x00\x00\x01\x06", b"\x05\x00\x01",
                             b"\x06", b"\x01",
                             b"\x17\x00\x01" + field(INPUT_IDS[5], 8) + b"\x00\x05\x02\x01\x06\x06\x01")
+        self.checked = self.box.connections[c].strict == 1
         message = framed(content, self.checksum(content))
         for byte in message:
             self.offer(c, bytes([byte]), 4096)
@@ -743,7 +824,8 @@ class Maker:
 
     SCENES = (scene_count_top, scene_count_alarm, scene_usage_alarm, scene_clock, scene_nothing_changed,
               scene_there_and_back, scene_monitor_off_and_on, scene_half_and_close, scene_two_halves, scene_byte_by_byte,
-              scene_meanwhile, scene_meanwhile, scene_cancelling, scene_cancelling, scene_full_queue)
+              scene_meanwhile, scene_meanwhile, scene_cancelling, scene_cancelling, scene_full_queue, scene_truly_0xffff,
+              scene_strict_anew, scene_two_strictnesses)
 
     STEPS = ((do_talk, 70), (do_level, 7), (do_pass, 5), (do_collect, 7), (do_open, 6), (do_close, 2.5), (do_state, 5),
              (do_power, .4), (do_bad_line, 2), (do_scene, 5))
