@@ -100,12 +100,12 @@ wellacorn_done box_level(box *b, uint8_t k, uint8_t v)
     return wellacorn_box_level(&b->lent, k, v);
 }
 
-wellacorn_done box_connect(box *b, uint8_t c, uint8_t rank)
+wellacorn_done box_connect(box *b, uint8_t c, uint8_t rank, bool strict)
 {
     if (b->trace != NULL) {
-        fprintf(b->trace, "open %u %u\n", c, rank);
+        fprintf(b->trace, "open %u %u%s\n", c, rank, strict ? " 1" : "");
     }
-    return wellacorn_box_connect(&b->lent, c, rank);
+    return wellacorn_box_connect(&b->lent, c, rank, strict);
 }
 
 wellacorn_done box_close(box *b, uint8_t c)

@@ -41,7 +41,7 @@ uint64_t box_next(const box *b);
 const wellacorn_pulse *box_pulse(const box *b, size_t first, size_t i);
 
 wellacorn_done box_level(box *b, uint8_t k, uint8_t v);
-wellacorn_done box_connect(box *b, uint8_t c, uint8_t rank);
+wellacorn_done box_connect(box *b, uint8_t c, uint8_t rank, bool strict);
 wellacorn_done box_close(box *b, uint8_t c);
 wellacorn_done box_collect(box *b, uint8_t c);
 came box_bytes(box *b, uint8_t c, const uint8_t *piece, size_t n);

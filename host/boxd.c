@@ -89,14 +89,21 @@ static void tell_time(host *h)
 
 /* ---- Connections */
 
+/* Whether a user's connection is strict, or, with NULL, one that nobody has logged in on. */
+static bool is_strict(const host *h, const user *who)
+{
+    return h->options.strict || (who != NULL && who->strict);
+}
+
 static void open_line(host *h, uint8_t c, int fd, const char *peer)
 {
     uint8_t rank = h->door.users == NULL ? 2 : 0;
+    bool strict = is_strict(h, NULL);
     line_open(&h->lines[c], fd, peer);
     login_fresh(&h->logins[c]);
     h->heard[c] = (heard){0};
-    box_connect(&h->box, c, rank);
-    say("connection %u: %s connected, %s", c, peer, told_rank(rank));
+    box_connect(&h->box, c, rank, strict);
+    say("connection %u: %s connected, %s%s", c, peer, told_rank(rank), told_strict(strict));
 }
 
 static void close_line(host *h, uint8_t c, const char *why)
@@ -162,11 +169,12 @@ static void tell_login(const host *h, uint8_t c, uint8_t rank)
     } else if (h->door.users == NULL) {
         say("connection %u logged in: nobody has to here, each is an administrator", c);
     } else {
-        say("connection %u: %s logged in, %s", c, name, told_rank(rank));
+        say("connection %u: %s logged in, %s%s", c, name, told_rank(rank), told_strict(is_strict(h, l->who)));
     }
 }
 
-/* Goes on with the login of a connection, and answers it when it is judged. The connection is then opened anew at the user's rank. */
+/* Goes on with the login of a connection, and answers it when it is judged. The connection is then opened anew, at the user's rank and as strict
+ * as the user is: what an earlier user was is over. */
 static void go_on_with_login(host *h, uint8_t c)
 {
     login *l = &h->logins[c];
@@ -181,7 +189,7 @@ static void go_on_with_login(host *h, uint8_t c)
     tell_login(h, c, rank);
     if (l->stage == LOGIN_RIGHT && l->who != NULL) {
         box_close(&h->box, c);
-        box_connect(&h->box, c, rank);
+        box_connect(&h->box, c, rank, is_strict(h, l->who));
     }
     login_done(l);
 }
@@ -488,6 +496,9 @@ static void greet(const host *h)
     } else {
         say("nobody has to log in: each client is an administrator%s",
             h->options.loopback ? "" : ", and others than this machine reach it. --users FILE asks for a login");
+    }
+    if (h->options.strict) {
+        say("every connection is strict: a checksum of 0xFFFF does not pass unchecked");
     }
     say("%s. Commands: level K V, state, quit", h->options.quiet ? "no simulated morning" : "a simulated morning: fish rise at random");
 }

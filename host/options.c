@@ -24,6 +24,8 @@ static const char help[] =
     "\n"
     "    --listen ADDRESS:PORT   where to listen; without it 127.0.0.1:9200, this machine alone. Port 0: any that is free\n"
     "    --users FILE            clients have to log in; host/adduser.py makes the file's lines. Without it each is an administrator\n"
+    "    --strict                every connection is strict: 0xFFFF does not pass unchecked. For links that garble bytes, such as radio.\n"
+    "                            Without it a connection is strict where the users file says so of its user\n"
     "    --settings FILE         setpoints and alarm switches: the 40 numbers of `power` in docs/REPLAY.md. Without it the count alarms\n"
     "                            of every input stand at 20 and 50, and input 8 has its alarm switch set\n"
     "    --quiet                 no simulated morning: inputs change by `level` alone\n"
@@ -222,6 +224,8 @@ static bool read_arguments(options *o, int argc, char **argv)
     for (int i = 1; i < argc; i++) {
         if (strcmp(argv[i], "--quiet") == 0) {
             o->quiet = true;
+        } else if (strcmp(argv[i], "--strict") == 0) {
+            o->strict = true;
         } else if (!has_value(argv[i])) {
             complain("there is no argument", argv[i], "--help lists them");
             return false;

@@ -11,6 +11,7 @@ typedef struct {
     socklen_t address_len;
     bool loopback;                      /* whether only this machine reaches it */
     const char *users;                  /* NULL: no login */
+    bool strict;                        /* every connection is strict, whoever's it is */
     const char *trace;                  /* NULL: none */
     wellacorn_settings settings;        /* set at power-up */
     bool quiet;                         /* no simulated morning */

@@ -169,7 +169,17 @@ static void add_switched(words *w, const box *b, unsigned switched)
 
 /* ---- Messages that were refused: why, and what to do about it */
 
-static void add_refused(words *w, const uint8_t *content, size_t n, uint8_t answer)
+static void add_checksum(words *w, bool strict)
+{
+    if (strict) {
+        add(w, "its checksum differs, and 0xFFFF does not pass unchecked on this strict connection. "
+               "The link is noisy, or the sender reckons no checksum or a wrong one");
+    } else {
+        add(w, "its checksum differs. The link is noisy, or the sender reckons it wrongly");
+    }
+}
+
+static void add_refused(words *w, const uint8_t *content, size_t n, uint8_t answer, bool strict)
 {
     if (n == 0) {
         add(w, "sent an empty message; refused (%u): ", answer);
@@ -178,7 +188,7 @@ static void add_refused(words *w, const uint8_t *content, size_t n, uint8_t answ
     }
     switch (answer) {
     case WELLACORN_BAD_CHECKSUM:
-        add(w, "its checksum differs. The link is noisy, or the sender reckons it wrongly");
+        add_checksum(w, strict);
         break;
     case WELLACORN_NOT_OFFERED:
         add(w, "%s", n == 0 ? "it has no type" : "this box does not offer it");
@@ -210,7 +220,7 @@ static void told_message(const box *b, uint8_t c, const came *it)
     } else if (it->done.answer == WELLACORN_TOO_LONG) {
         add(&w, "sent a message of %zu bytes, swallowed (%d): the longest is 1,024", it->read - 5, WELLACORN_TOO_LONG);
     } else {
-        add_refused(&w, content, n, it->done.answer);
+        add_refused(&w, content, n, it->done.answer, b->lent.board.lines[c].strict != 0);
     }
     say("connection %u %s", c, w.text);
 }
@@ -264,6 +274,11 @@ void told_rest(heard *h, uint8_t c)
 const char *told_rank(uint64_t rank)
 {
     return rank == 2 ? "administrator" : rank == 1 ? "user" : "not logged in";
+}
+
+const char *told_strict(bool strict)
+{
+    return strict ? ", strict" : "";
 }
 
 /* ---- All that the box holds */
@@ -324,8 +339,8 @@ void told_state(const box *b, const char *const peers[WELLACORN_CONNECTIONS])
         if (peers[c] == NULL) {
             say("state: connection %d is free", c);
         } else {
-            say("state: connection %d is %s, %s, Monitor %s, %" PRIu64 " bytes of a message read", c, peers[c], told_rank(l->rank),
-                l->monitor ? "on" : "off", b->lent.halves[c].got);
+            say("state: connection %d is %s, %s%s, Monitor %s, %" PRIu64 " bytes of a message read", c, peers[c], told_rank(l->rank),
+                told_strict(l->strict != 0), l->monitor ? "on" : "off", b->lent.halves[c].got);
         }
     }
 }

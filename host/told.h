@@ -22,6 +22,9 @@ void told_rest(heard *h, uint8_t c);
 /* A rank in words. */
 const char *told_rank(uint64_t rank);
 
+/* What is said behind the rank of a strict connection; nothing of another. */
+const char *told_strict(bool strict);
+
 /* Prints all that the box holds, a few lines. */
 void told_state(const box *b, const char *const peers[WELLACORN_CONNECTIONS]);
 

@@ -10,7 +10,8 @@
 #include <sys/stat.h>
 
 enum {
-    WORDS = 5,
+    WORDS = 5,              /* of every line */
+    WORDS_STRICT = 6,       /* of a strict user's */
     LINE = 512,             /* characters of a line, its end included */
     SALT_LEAST = 8          /* bytes of salt */
 };
@@ -97,9 +98,15 @@ static const char *read_digests(const char *salt, const char *hash, user *u)
     return NULL;
 }
 
+static const char *read_strict(const char *word, user *u)
+{
+    u->strict = strcmp(word, "strict") == 0;
+    return u->strict ? NULL : "the sixth word can only be strict; leave it out for a user who is not";
+}
+
 /* ---- A line */
 
-static size_t split(char *text, char *words[WORDS])
+static size_t split(char *text, char *words[WORDS_STRICT])
 {
     size_t n = 0;
     for (char *word = text; word != NULL; n++) {
@@ -107,7 +114,7 @@ static size_t split(char *text, char *words[WORDS])
         if (blank != NULL) {
             *blank = 0;
         }
-        if (n < WORDS) {
+        if (n < WORDS_STRICT) {
             words[n] = word;
         }
         word = blank == NULL ? NULL : blank + 1;
@@ -117,15 +124,17 @@ static size_t split(char *text, char *words[WORDS])
 
 static const char *read_user(users *all, char *text)
 {
-    char *words[WORDS];
+    char *words[WORDS_STRICT];
     user u = {0};
-    if (split(text, words) != WORDS) {
-        return "a line has five words with one blank between: name, rank, iterations, salt, hash";
+    size_t n = split(text, words);
+    if (n != WORDS && n != WORDS_STRICT) {
+        return "a line has five words with one blank between: name, rank, iterations, salt, hash; and a sixth, strict, where the user is so";
     }
     const char *wrong = read_name(all, words[0], &u);
     wrong = wrong == NULL ? read_rank(words[1], &u) : wrong;
     wrong = wrong == NULL ? read_iterations(words[2], &u) : wrong;
     wrong = wrong == NULL ? read_digests(words[3], words[4], &u) : wrong;
+    wrong = wrong == NULL && n == WORDS_STRICT ? read_strict(words[5], &u) : wrong;
     if (wrong == NULL && all->n == USERS) {
         wrong = "there is room for 64 users; take some out";
     }

@@ -1,9 +1,10 @@
 /* The users file: who may log in, at which rank. host/adduser.py makes its lines.
  *
- *     NAME RANK ITERATIONS SALT HASH
+ *     NAME RANK ITERATIONS SALT HASH [strict]
  *
  * with one blank between. The hash is PBKDF2 with HMAC and SHA-256 of the password with that salt and so many iterations; salt and hash are
- * hexadecimal. A line that is empty or begins with # says nothing.
+ * hexadecimal. Where `strict` stands behind them the user's connections are strict: no message passes there unchecked. A line that is empty or
+ * begins with # says nothing.
  */
 #ifndef USERS_H
 #define USERS_H
@@ -20,6 +21,7 @@ enum {
 typedef struct {
     char name[USER_NAME + 1];
     uint8_t rank;                       /* 1 user, 2 administrator */
+    bool strict;
     uint32_t iterations;
     uint8_t salt[PBKDF2_SALT];
     size_t salt_len;

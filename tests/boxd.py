@@ -24,6 +24,11 @@ def frame(content):
     return b"\x01" + field(len(content), 2) + field(crc16(content), 2) + content
 
 
+def unchecked(content):
+    """With 0xFFFF in the place of the checksum."""
+    return b"\x01" + field(len(content), 2) + b"\xFF\xFF" + content
+
+
 def string(text):
     return bytes([len(text)]) + text
 
@@ -256,9 +261,10 @@ class Client:
 # ---------------------------------------------------------------------------------------------
 
 class Session:
-    """What the trace says of one opening of a connection."""
+    """What the trace says of one opening of a connection.  `opened`: the words of its line behind the connection's number."""
 
-    def __init__(self):
+    def __init__(self, opened):
+        self.opened = opened
         self.taken = bytearray()
         self.replies = bytearray()
 
@@ -301,7 +307,7 @@ class Played:
             self.current[int(words[0])].replies += reply
         else:
             if name == "open":
-                self.current[int(words[0])] = Session()
+                self.current[int(words[0])] = Session(words[1:])
                 self.sessions.append(self.current[int(words[0])])
             self.passed += int(words[0]) if name == "pass" else 0
             if name == "level" and words[1] == "1":

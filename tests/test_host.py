@@ -26,7 +26,7 @@ import traces
 from answers import (BAD_CHECKSUM, BAD_LENGTH, KEEP_ALIVE, LOW_RANK, NOT_OFFERED, OUT_OF_RANGE, QUEUE_FULL, SERVED, STRAY, TOO_LONG,
                      WAITING)
 from boxd import (Boxd, CLOCK, Client, HOW_MANY, MONITOR, PATIENCE, PROGRAM, Program, ROOT, block_pulse, frame, judge, login, pulse, refused,
-                  string)
+                  string, unchecked)
 from model import Box, INPUT_IDS, RELAY_IDS, field, number
 
 sys.path.insert(0, os.path.join(ROOT, "host"))
@@ -110,10 +110,10 @@ class Clients(Case):
         for _ in range(n):
             host.tell(f"level {rng.randrange(1, 9)} {rng.randrange(2)}")
 
-    def test_four_at_once_cut_and_joined(self):
-        """Bytes of four connections, cut at random and joined: each client gets what the model replies, no byte more or less."""
+    def four_at_once(self, *words):
+        """What is played of four clients at a time, each of whom got what the model replies, no byte more or less."""
         clients = []
-        with Boxd("--quiet", "--settings", settings_file(self.folder.name), trace=True) as host:
+        with Boxd("--quiet", *words, "--settings", settings_file(self.folder.name), trace=True) as host:
             run_all(*[lambda seed=seed: self.one_client(host, clients, f"four/{seed}") for seed in range(4)],
                     lambda: self.lifts(host, "lifts", 1000))
             host.quit()
@@ -121,6 +121,14 @@ class Clients(Case):
         self.assertEqual(len(clients), 12)
         for answer in (WAITING, SERVED, KEEP_ALIVE, STRAY, TOO_LONG, BAD_CHECKSUM, NOT_OFFERED, BAD_LENGTH, OUT_OF_RANGE):
             self.assertIn(answer, played.answers)
+        return played
+
+    def test_four_at_once_cut_and_joined(self):
+        """Bytes of four connections, cut at random and joined.  The same bytes on strict connections: those with 0xFFFF are refused besides."""
+        lenient, strict = self.four_at_once(), self.four_at_once("--strict")
+        self.assertEqual({session.opened for session in lenient.sessions}, {("2",)})
+        self.assertEqual({session.opened for session in strict.sessions}, {("2", "1")})
+        self.assertGreater(strict.answers[BAD_CHECKSUM], 2 * lenient.answers[BAD_CHECKSUM])
 
     def test_slow_reader(self):
         """A client that does not read is not read from; the others notice nothing, and it loses no reply."""
@@ -557,9 +565,13 @@ class Users(Case):
             f"bo 1 99999999999 {salt} {digest}", f"bo 1 -5 {salt} {digest}", f"bo 1 1000 {salt[:14]} {digest}", f"bo 1 1000 {salt}0 {digest}",
             f"bo 1 1000 {salt[:-1]}g {digest}", f"bo 1 1000 {'ab' * 65} {digest}", f"bo 1 1000 {salt} {digest[:-2]}",
             f"bo 1 1000 {salt} {digest}00", f"b:o 1 1000 {salt} {digest}", f"{'b' * 33} 1 1000 {salt} {digest}",
-            f"b\xf6 1 1000 {salt} {digest}", f" 1 1000 {salt} {digest}", self.GOOD, "x" * 2000,
+            f"b\xf6 1 1000 {salt} {digest}", f" 1 1000 {salt} {digest}", self.GOOD, "x" * 2000, f"bo 1 1000 {salt} strict",
+            f"bo 1 1000 {salt} {digest} strict strict", f"bo 1 1000 {salt} {digest}  strict",
         )
-        said = self.refused("--users", self.users_file("# who may log in", "", self.GOOD, *bad))
+        sixth = tuple(f"bo 1 1000 {salt} {digest} {word}" for word in ("x", "Strict", "strictly", "1", ""))
+        said = self.refused("--users", self.users_file("# who may log in", "", self.GOOD, *bad, *sixth))
+        self.assertEqual(said.count("the sixth word can only be strict"), len(sixth))
+        bad += sixth
         for index, line in enumerate(bad):
             self.assertIn(f", line {index + 4}: ", said, line[:80])
         self.assertEqual(said.count(", line "), len(bad))
@@ -578,11 +590,12 @@ class Users(Case):
     def test_adduser(self):
         """host/adduser.py makes a line that Python's hash agrees with, from standard input alone."""
         words = [sys.executable, os.path.join(ROOT, "host", "adduser.py")]
-        done = subprocess.run(words + ["olav", "2", "--iterations", "2000"], input="a long secret\n", text=True, stdout=subprocess.PIPE,
-                              timeout=PATIENCE, check=True)
-        name, rank, iterations, salt, digest = done.stdout.split()
-        self.assertEqual((name, rank, iterations, len(salt)), ("olav", "2", "2000", 32))
-        self.assertEqual(hashlib.pbkdf2_hmac("sha256", b"a long secret", bytes.fromhex(salt), 2000).hex(), digest)
+        for more, behind in (([], []), (["--strict"], ["strict"])):
+            done = subprocess.run(words + ["olav", "2", "--iterations", "2000"] + more, input="a long secret\n", text=True,
+                                  stdout=subprocess.PIPE, timeout=PATIENCE, check=True)
+            name, rank, iterations, salt, digest, *rest = done.stdout.removesuffix("\n").split(" ")
+            self.assertEqual((name, rank, iterations, len(salt), rest), ("olav", "2", "2000", 32, behind))
+            self.assertEqual(hashlib.pbkdf2_hmac("sha256", b"a long secret", bytes.fromhex(salt), 2000).hex(), digest)
         for wrong in (["ol av", "1"], ["olav", "3"], ["a:b", "1"], ["#a", "1"], ["olav", "1", "--iterations", "5"]):
             done = subprocess.run(words + wrong, input="secret\n", text=True, stdout=subprocess.PIPE, stderr=subprocess.PIPE,
                                   timeout=PATIENCE)
@@ -769,6 +782,111 @@ class Login(Case):
 
 
 # ---------------------------------------------------------------------------------------------
+# Strict connections (M-103)
+# ---------------------------------------------------------------------------------------------
+
+class Strict(Case):
+    TOGGLE_2 = unchecked(b"\x0A\x03\x00\x02")
+    CHECKED_SO = frame(b"\x0A\x0A\xD1\xB2")          # relays 5 and 8 closed, 1 and 7 open; its true checksum is 0xFFFF
+
+    def start(self, *words):
+        """anna is strict, olav is not."""
+        return Boxd("--quiet", *words, "--users", self.users_file(adduser.line("anna", 1, b"salmon", 1000, strict=True),
+                                                                  adduser.line("olav", 2, b"Trout:7", 1000)))
+
+    def told_of(self, host, client, message=TOGGLE_2):
+        """What the host says of a command that the client sends with 0xFFFF: toggled, or refused with which number."""
+        before = len(host.lines)
+        client.send(message)
+        return host.wait_for(r"connection 0 .*(toggled|refused \(\d+\))", before).group(1)
+
+    def state_of(self, host):
+        """What `state` says of connection 0 behind its address."""
+        before = len(host.lines)
+        host.tell("state")
+        return host.wait_for(r"state: connection 0 is [\d.:]+, (.*), Monitor", before).group(1)
+
+    def logs_in(self, client, name, password, permissions):
+        self.assertEqual(client.ask(login(name, password), 125), bytes([125, permissions]))
+
+    def play(self, *words):
+        """One client, whose replies are the model's: the host, which has ended, and the relays that are closed in the end."""
+        sent = (self.TOGGLE_2, frame(b"\x0A\x01\x00\x03"), self.CHECKED_SO, unchecked(b""), unchecked(b"\x63"), unchecked(bytes(1025)),
+                b"\x01\x00\x04\xFF\xFE\x0A\x01\x00\x06", MONITOR)
+        with Boxd("--quiet", *words, trace=True) as host, Client(host.port) as client:
+            client.send(b"".join(sent))
+            client.finish()
+            host.quit()
+            judge(host, [client])
+        monitor = [content for content in client.contents() if content[0] == 1][-1]
+        return host, [k for k in range(1, 9) if monitor[80 + k]]
+
+    def test_every_connection(self):
+        """With --strict 0xFFFF passes only where it is the true checksum: nothing is done, and the host says why.  It is refused before its
+        type is looked at, and behind its length.
+        """
+        self.assertEqual(self.CHECKED_SO[3:5], b"\xFF\xFF")
+        host, closed = self.play("--strict")
+        self.assertEqual(closed, [3, 5, 8])
+        self.assertEqual(host.count(refused(BAD_CHECKSUM) + ": its checksum differs, and 0xFFFF does not pass unchecked on this strict"), 4)
+        self.assertEqual(host.count(refused(NOT_OFFERED)), 0)
+        self.assertEqual(host.count(rf"swallowed \({TOO_LONG}\)"), 1)
+        self.assertEqual(host.count("connected, administrator, strict$"), 1)
+
+    def test_not_strict(self):
+        """Without --strict 0xFFFF passes unchecked, and nothing is said of strictness."""
+        host, closed = self.play()
+        self.assertEqual(closed, [2, 3, 5, 8])
+        self.assertEqual(host.count(refused(BAD_CHECKSUM) + r": its checksum differs\. The link"), 1)
+        self.assertEqual(host.count(refused(NOT_OFFERED)), 2)
+        self.assertEqual(host.count(rf"swallowed \({TOO_LONG}\)"), 1)
+        self.assertEqual(host.count("connected, administrator$"), 1)
+        self.assertEqual(host.count("strict"), 0)
+
+    def test_users(self):
+        """A connection is as strict as who logged in on it last; before that it is not, and a wrong password changes nothing."""
+        passes, fails = "toggled", f"refused ({BAD_CHECKSUM})"
+        with self.start() as host, Client(host.port) as client:
+            self.assertEqual(self.told_of(host, client), f"refused ({LOW_RANK})")
+            self.assertEqual(self.state_of(host), "not logged in")
+            self.assertEqual(client.ask(unchecked(login(b"anna", b"salmon")[5:]), 125), b"\x7D\x02")
+            self.assertEqual(self.told_of(host, client), fails)
+            self.assertEqual(self.state_of(host), "user, strict")
+            self.logs_in(client, b"olav", b"guess", 0xFF)
+            self.assertEqual(self.told_of(host, client), fails)
+            self.assertEqual(self.told_of(host, client, unchecked(login(b"olav", b"Trout:7")[5:])), fails)
+            self.logs_in(client, b"olav", b"Trout:7", 0x80)
+            self.assertEqual(self.told_of(host, client), passes)
+            self.assertEqual(self.state_of(host), "administrator")
+            self.logs_in(client, b"anna", b"guess", 0xFF)
+            self.assertEqual(self.told_of(host, client), passes)
+            self.assertEqual(self.told_of(host, client, login(b"anna", b"salmon") + self.TOGGLE_2), fails)
+            host.quit()
+        self.assertEqual(host.count("relay 2 is (closed|open) now"), 2)
+        self.assertEqual(host.count("connected, not logged in$"), 1)
+        self.assertEqual(host.count("anna logged in, user, strict$"), 2)
+        self.assertEqual(host.count("olav logged in, administrator$"), 1)
+
+    def test_users_of_a_strict_box(self):
+        """With --strict every user is strict, and so is who has not logged in: a login with 0xFFFF is not even looked at."""
+        fails = f"refused ({BAD_CHECKSUM})"
+        with self.start("--strict") as host, Client(host.port) as client:
+            self.assertEqual(self.told_of(host, client), fails)
+            self.assertEqual(self.told_of(host, client, unchecked(login(b"olav", b"Trout:7")[5:])), fails)
+            self.assertEqual(self.state_of(host), "not logged in, strict")
+            self.logs_in(client, b"olav", b"Trout:7", 0x80)
+            self.assertEqual(bytes(client.got[:7]), ADMINISTRATOR)              # the answer to the login alone
+            self.assertEqual(self.told_of(host, client), fails)
+            client.send(self.CHECKED_SO)
+            host.wait_for("relay 5 is closed now; relay 8 is closed now")
+            self.logs_in(client, b"anna", b"salmon", 0x02)
+            self.assertEqual(self.told_of(host, client), fails)
+            host.quit()
+        self.assertEqual(host.count("connected, not logged in, strict$"), 1)
+        self.assertEqual(host.count("logged in, (user|administrator), strict$"), 2)
+
+
+# ---------------------------------------------------------------------------------------------
 # Arguments
 # ---------------------------------------------------------------------------------------------
 
@@ -779,7 +897,7 @@ class Arguments(Case):
             file.write("1 2 3")
         for words, said in ((("--listen", "9200"), "Write for example"), (("--listen", "localhost:9200"), "Write for example"),
                             (("--listen", "127.0.0.1:65536"), "Write for example"), (("--listen",), "--help says what"),
-                            (("--loud",), "--help lists them"), (("--seed", "-1"), "Write for example"),
+                            (("--loud",), "--help lists them"), (("--strict", "1"), "--help lists them"), (("--seed", "-1"), "Write for example"),
                             (("--settings", short), "number 4 of 40"), (("--settings", short + "x"), "Name another after"),
                             (("--listen", "192.0.2.1:9200"), "choose one that it has"),
                             (("--quiet", "--listen", "127.0.0.1:0", "--trace", self.folder.name), "Name another file")):
@@ -801,7 +919,7 @@ class Arguments(Case):
     def test_help(self):
         done = subprocess.run([os.path.join(ROOT, "host", "exec"), PROGRAM, "--help"], stdout=subprocess.PIPE, text=True, check=True,
                               timeout=PATIENCE)
-        for word in ("--listen", "--users", "--settings", "--quiet", "--seed", "--trace", "level K V", "state", "quit"):
+        for word in ("--listen", "--users", "--strict", "--settings", "--quiet", "--seed", "--trace", "level K V", "state", "quit"):
             self.assertIn(word, done.stdout)
 
 

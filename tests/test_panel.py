@@ -18,7 +18,7 @@ import threading
 import time
 import unittest
 
-from answers import QUEUE_FULL
+from answers import BAD_CHECKSUM, QUEUE_FULL
 from boxd import Boxd, Client, MONITOR, PATIENCE, PROGRAM, Program, ROOT, frame, pulse, refused
 from model import Box, RELAY_IDS, field, number
 
@@ -334,6 +334,21 @@ class Case(unittest.TestCase):
                 nobody.wait_until(lambda s: "start the panel with --user NAME" in s["check"])
                 self.assertTrue(panel.state()["answers"])
                 host.quit()
+
+    def test_strict_box(self):
+        """M-103: what the panel sends has its true checksum, its login too, so that a strict box refuses none of it."""
+        with tempfile.TemporaryDirectory() as folder:
+            users = os.path.join(folder, "users")
+            with open(users, "w", encoding="ascii") as file:
+                file.write(adduser.line("anna", 1, b"salmon", 1000, strict=True) + "\n")
+            with Boxd("--quiet", "--strict", "--users", users) as host, Panel(host.port, "--user", "anna", secret="salmon") as panel:
+                panel.wait_until(answers)
+                self.assertEqual(panel.press(3, True)[0], 200)
+                self.assertEqual(panel.pulse(5, 20)[::2], (200, "The pulse of relay 5, 20 ms, has begun.\n"))
+                panel.wait_until(lambda s: s["standing"] == 0 and s["relays"][2]["closed"])
+                host.quit()
+            self.assertEqual(host.count("anna logged in, user, strict$"), 1)
+            self.assertEqual(host.count(refused(BAD_CHECKSUM)), 0)
 
     def test_start_and_end(self):
         """SIGTERM ends it cleanly; a port in use and a bad address say what to do."""
