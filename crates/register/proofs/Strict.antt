@@ -1,4 +1,5 @@
 -- 02, M-103: strict connections, over the definitions that the entry points' contracts cite.
+--     unchecked-served     on a connection that is not strict a frame with 0xFFFF is served, whatever its true checksum is
 --     strict-checked       on a strict connection a frame is served where its checksum is the true one, 0xFFFF or not, and else refused with 7
 --     strictness-opened    a connection that an opening opened is as strict as the opening said
 --     strictness-kept      whatever call comes, a connection that was open and still is stays as strict as it was
@@ -27,6 +28,11 @@ use Rattle.register.specs.Box.{Event, level, pass, connect, close, colle
 use Rattle.register.proofs.Cases.{connect-cases}
 use Rattle.register.proofs.Touching.{as-strict, unmarked-settled, level-event, pass-event, collect-touches}
 use Rattle.register.proofs.BoxCalls.{feeds-effect, bytes-touches, connect-apart, close-apart, close-shuts}
+
+-- NOT STRICT, UNCHECKED: 01, Frame, 5, as before
+pub unchecked-served : (c : ℕ) (s : List ℕ) (b : Board) → isStrict c b ≡ false → servedMessage c (frame 0xFFFF s) b ≡ servedContent c s b
+unfolding servedMessage
+unchecked-served c s b lax = rw lax
 
 -- STRICT, CHECKED. A whole frame on a strict connection: its checksum alone decides
 frame-checked : (c sum : ℕ) (s : List ℕ) (b : Board) → isStrict c b ≡ true
