@@ -195,13 +195,13 @@ static void try_close_relay(uint8_t k, uint8_t c)
     send("a relay is closed", c, (const uint8_t[]){10, 1, 0, k}, 4);
 }
 
-/* Whatever the byte that says strict, the board has a flag. */
+/* The byte that says strict stands in the board as it is. */
 static void try_connect(uint8_t c, uint8_t rank, uint8_t strict)
 {
     scribble();
     board->lines[c].is_open = 0;
     begin();
-    board->lines[c] = (wellacorn_line){.is_open = 1, .rank = rank, .monitor = 1, .due = rank > 0, .strict = strict > 0};
+    board->lines[c] = (wellacorn_line){.is_open = 1, .rank = rank, .monitor = 1, .due = rank > 0, .strict = strict};
     expected.box.halves[c] = nothing_read;
     came_to("connect", wellacorn_box_connect(&found.box, c, rank, strict), WELLACORN_SERVED, 0, 0);
 }
@@ -255,7 +255,7 @@ static void try_strict(uint8_t c)
 {
     scribble();
     wellacorn_line *line = listening(c);
-    line->strict = 1;
+    line->strict = 128;
     board->inputs[0] = (wellacorn_input){.level = 0};
     begin();
     send_for("strict, 0xFFFF", c, (const uint8_t[]){5, 0, 4}, 3, WELLACORN_BAD_CHECKSUM);

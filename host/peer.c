@@ -738,7 +738,7 @@ uint8_t peer_connect(peer_box *box, uint8_t c, uint8_t rank, uint8_t strict)
         .rank = rank,
         .monitor = true,
         .due = rank > 0,
-        .strict = strict != 0,
+        .strict = strict,
         .unchecked = strict != 0 ? NO_CHECKSUM : UNCHECKED,
     };
     opened->half = nothing_read;

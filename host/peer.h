@@ -36,7 +36,7 @@ typedef struct {
     uint8_t rank;
     bool monitor;
     bool due;
-    bool strict;
+    uint8_t strict;         /* as its opening said: 0 is not strict */
     uint32_t unchecked;     /* the sent checksum that passes unchecked; on a strict connection a number that nobody can send */
 } peer_line;
 

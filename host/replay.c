@@ -429,7 +429,7 @@ static bool state(const word *words, size_t n)
     print_text(" N");
     for (int c = 0; c < WELLACORN_CONNECTIONS; c++) {
         const wellacorn_line *line = &b.lines[c];
-        print_numbers((const uint64_t[]){line->is_open, line->rank, line->monitor, line->due, engine_half(&box, c).got, line->strict}, 6);
+        print_numbers((const uint64_t[]){line->is_open, line->rank, line->monitor, line->due, engine_half(&box, c).got, line->strict != 0}, 6);
     }
     print_queue(&b.queue);
     return true;

@@ -68,8 +68,8 @@ enum {
 /* ---- What the box holds.
  *
  * The host may read it between calls: levels, counts, usages, relays, the clock, the connections, what is due, the pulses, how far a message
- * has been read. It writes to none of it. Usages are in ms. A flag is a word: 0 is no, anything else yes; the calls write 0 and 1. The unused words
- * are 0. */
+ * has been read. It writes to none of it. Usages are in ms. A flag is a word: 0 is no, anything else yes; the calls write 0 and 1, but `strict` as
+ * the host said it. The unused words are 0. */
 
 typedef struct {
     uint64_t level;             /* on or off */
@@ -101,7 +101,7 @@ typedef struct {
     uint64_t rank;              /* 0 not logged in, 1 user, 2 administrator */
     uint64_t monitor;           /* Monitor on or off */
     uint64_t due;               /* Monitor due or not */
-    uint64_t strict;            /* 0xFFFF stands for no checksum but itself */
+    uint64_t strict;            /* as its opening said: where it is not 0, no checksum passes unchecked, 0xFFFF neither */
     uint64_t unused[3];
 } wellacorn_line;
 

@@ -36,6 +36,7 @@ use Rattle.demand.proofs.Following.{reaches}
 use Rattle.demand.specs.Empty.{Waiting, Frozen, Starving, Nodding, OneFrame}
 use Rattle.demand.proofs.Empty.{whole-served, not-idle, not-starving, not-frozen, not-nodding, meets-on}
 use Rattle.rows.specs.declared.Line.{Line}
+use Rattle.rows.specs.Rows.{isOn}
 use Rattle.pulses.specs.Pulses.{shortRow}
 use Rattle.demand.proofs.Taking.{rest-none}
 use Rattle.register.specs.Box.{connect, Reply, replyOf, Tables, refusalOf, served, tablesOf, box, atPowerUp, ends, run}
@@ -80,7 +81,7 @@ module _ (p : Board) (h : lineAt 0 p .rank ≡ 2) (n : isStrict 0 p ≡ false) w
   clock-begins = rw (h, n)
 
 -- AFTER THE OPENING connection 0 is open at rank 2, not strict, and relay 1 open; each toggle changes that
-first-line : lineAt 0 (connected 0 2 0 (poweredUp settings) .board) ≡ openedLine 2 false
+first-line : lineAt 0 (connected 0 2 0 (poweredUp settings) .board) ≡ openedLine 2 0
 unfolding lineAt putLine onRows poweredUp connected openedLine
 first-line = refl
 
@@ -90,7 +91,7 @@ rank-two = ap (λ (l : Line). l .rank) first-line
 
 not-strict : isStrict 0 (connected 0 2 0 (poweredUp settings) .board) ≡ false
 unfolding openedLine
-not-strict = ap (λ (l : Line). l .strict) first-line
+not-strict = ap (λ (l : Line). isOn (l .strict)) first-line
 
 abbrev closedOne : Tables → Bool
 closedOne t = relayAt 1 (t .board) .closed

@@ -11,26 +11,26 @@ use Rattle.rows.specs.Places.{Board, isConnection, lineAt, putLine}
 use Rattle.marks.specs.Marks.{lineOf, hasRank}
 use Rattle.answers.specs.Calls.{Did, did, refused}
 
--- 01, Events, 3, and 02, M-103, 2: what an opening at a rank, strict or not, makes of a connection
-unfoldable pub openedLine : ℕ → Bool → Line
+-- 01, Events, 3, and 02, M-103, 2: what an opening at a rank, which says whether it is strict, makes of a connection
+unfoldable pub openedLine : ℕ → ℕ → Line
 openedLine rank strict = lineOf true rank true (hasRank rank) strict
 
 -- 01, Answer numbers, line 3: whether c is open; a number that is no connection's reads as shut
 abbrev pub isOpen : ℕ → Board → Bool
 isOpen c b = lineAt c b .isOpen
 
--- 02, M-103, 2: whether c is strict, as its opening said; a number that is no connection's reads as shut, and so as not strict
+-- 02, M-103, 2: whether c is strict: it is unless its opening said 0; a number that is no connection's reads as shut, and so as not strict
 abbrev pub isStrict : ℕ → Board → Bool
-isStrict c b = lineAt c b .strict
+isStrict c b = isOn (lineAt c b .strict)
 
 -- 01, Events, 3, and Answer numbers, lines 3, 12 and 13: an opening: first the number is judged, then whether it is open, then the rank
--- 02, M-103, 2: it says whether the connection is strict: 0 is no, every other number yes
+-- 02, M-103, 2: it says whether the connection is strict
 unfoldable pub connected : ℕ → ℕ → ℕ → Board → Did
 connected c rank strict p =
     cond (isConnection c)
     (cond (isOpen c p) (refused numbers.alreadyOpen p)
     (cond (ltb 2 rank) (refused numbers.badRank p)
-    (did (putLine c (openedLine rank (isOn strict)) p) numbers.served [])))
+    (did (putLine c (openedLine rank strict) p) numbers.served [])))
     (refused numbers.noConnection p)
 
 -- 01, Events, 4: a closing: everything of the connection becomes 0

@@ -18,12 +18,12 @@ fn shut() -> Line
         rank: 0,
         monitor: false,
         due: false,
-        strict: false,
+        strict: 0,
     }
 }
 
-// A connection that was opened at a rank, strict or not.
-fn opened(rank: u64, strict: bool) -> Line
+// A connection that was opened at a rank, and whether as a strict one: what was said of it is kept as it is.
+fn opened(rank: u64, strict: u64) -> Line
     ensures { λ r. ⌜ r ≡ openedLine rank strict ⌝ }
 {
     Line {
@@ -48,7 +48,7 @@ pub fn is_strict(board: &[[u64; 8]; ROWS], c: u8) -> bool
     ensures { λ r. ⌜ r ≡ isStrict c (now (board .entry)) ⌝ }
 {
     let line = rows::line_at(board, c as usize);
-    line.strict
+    line.strict != 0
 }
 
 // A connection is opened at a rank; strict is 0 for one that is not strict, and anything else for one that is.
@@ -64,7 +64,7 @@ pub fn connect(board: &mut [[u64; 8]; ROWS], c: u8, rank: u8, strict: u8) -> Ser
     if 2 < rank {
         return answers::no_reply(numbers::BAD_RANK);
     }
-    rows::put_line(board, c as usize, opened(rank as u64, strict != 0));
+    rows::put_line(board, c as usize, opened(rank as u64, strict as u64));
     answers::no_reply(numbers::SERVED)
 }
 

@@ -8,7 +8,7 @@ use Rattle.rows.specs.Rows.{lineIn, lineWords}
 use Rattle.rows.specs.Places.{Board, onRows, firstLine}
 
 -- 01, What the box holds, 4, and 02, M-103, 2: a connection by its parts
-abbrev pub lineOf : Bool → ℕ → Bool → Bool → Bool → Line
+abbrev pub lineOf : Bool → ℕ → Bool → Bool → ℕ → Line
 lineOf isOpen rank monitor due strict = record { isOpen = isOpen; rank = rank; monitor = monitor; due = due; strict = strict }
 
 -- 01, Events, 3: user and administrator, the ranks that Monitor is due to

@@ -29,6 +29,9 @@ use Rattle.register.proofs.Cases.{connect-cases}
 use Rattle.register.proofs.Touching.{as-strict, unmarked-settled, level-event, pass-event, collect-touches}
 use Rattle.register.proofs.BoxCalls.{feeds-effect, bytes-touches, connect-apart, close-apart, close-shuts}
 
+abbrev strictLine : Line → Bool
+strictLine l = isOn (l .strict)
+
 -- NOT STRICT, UNCHECKED: 01, Frame, 5, as before
 pub unchecked-served : (c : ℕ) (s : List ℕ) (b : Board) → isStrict c b ≡ false → servedMessage c (frame 0xFFFF s) b ≡ servedContent c s b
 unfolding servedMessage
@@ -70,7 +73,7 @@ pub strictness-opened : (x : Held) (c rank strict : ℕ) → isOpen c (x .board)
 unfolding openedLine
 strictness-opened x c rank strict shut =
     connect-cases c b rank strict (λ d. isOpen c (d .board) ≡ true → isStrict c (d .board) ≡ isOn strict) none-opened none-opened none-opened
-    (λ u opens. ap (λ (l : Line). l .strict) (line-stored c (openedLine rank (isOn strict)) b shut opens))
+    (λ u opens. ap strictLine (line-stored c (openedLine rank strict) b shut opens))
   where
     b : Board
     b = x .board
@@ -90,11 +93,11 @@ event-keeps x (pass d) c u w = as-strict (unmarked-settled (pass-event d (x .row
 event-keeps x (connect d rank strict) c u w =
     by-cases (eqb c d)
     (λ same. ap (isStrict c) (connect-open d rank strict (x .board) (rw (eqb-true c d same) at u)))
-    (λ apart. ap (λ (l : Line). l .strict) (connect-apart d rank strict (x .board) c apart))
+    (λ apart. ap strictLine (connect-apart d rank strict (x .board) c apart))
 event-keeps x (close d) c u w =
     by-cases (eqb c d)
     (λ same. absurd (true≢false (sym (rw (eqb-true c d same) at w) ∙ close-shuts d (x .board))))
-    (λ apart. ap (λ (l : Line). l .strict) (close-apart d (x .board) c apart))
+    (λ apart. ap strictLine (close-apart d (x .board) c apart))
 event-keeps x (collect d room) c u w = as-strict (collect-touches d room (x .board) .as-opened) c
 
 pub strictness-kept : (x : Held) (k : Call served) (c : ℕ) → isOpen c (x .board) ≡ true → isOpen c (boxCall x k .0 .board) ≡ true

@@ -16,7 +16,7 @@ use Rattle.judges.specs.declared.Order.{Order}
 use Rattle.judges.specs.declared.Order.the-variants.{Refused, Clock, Monitor, Usage, MonitorOff, MonitorOn, SetClock, Close, Open, Toggle, ClearCount, ClearInputUsage, ClearRelayUsage, Block, PulseRelay, PulseBlock, Read, Write, Enumerate}
 use Rattle.rows.specs.declared.Line.{Line}
 use Rattle.rows.specs.Places.{Board, isConnection, rowAt, lineAt, putLine, onRows, linePlace, firstLine, queueRow, queueOf}
-use Rattle.rows.specs.Rows.{lineIn, lineWords, shutLine}
+use Rattle.rows.specs.Rows.{isOn, lineIn, lineWords, shutLine}
 use Rattle.rows.proofs.Range.{beyond}
 use Rattle.rows.proofs.Views.{line-again}
 use Rattle.changes.specs.Levels.{levelOf}
@@ -59,7 +59,7 @@ pub as-open : {b b′ : Board} → Settled b b′ → (d : ℕ) → isOpen d b�
 as-open e d = ap (λ (l : Line). l .isOpen) (e .of d)
 
 pub as-strict : {b b′ : Board} → Settled b b′ → (d : ℕ) → isStrict d b′ ≡ isStrict d b
-as-strict e d = ap (λ (l : Line). l .strict) (e .of d)
+as-strict e d = ap (λ (l : Line). isOn (l .strict)) (e .of d)
 
 -- what came from connection c leaves each what its opening settled, and the others as they were, their marks aside
 pub record Touches (c : ℕ) (b b′ : Board) : Type 0 where

@@ -54,11 +54,10 @@ relayWords r = flagged (r .closed) ∷ 0 ∷ 0 ∷ 0 ∷ 0 ∷ r .usage ∷ r .u
 
 -- 01, What the box holds, 4, and 02, M-103, 2: a connection in its row, without its half-read message, and its words
 abbrev pub lineIn : List ℕ → Line
-lineIn w =
-    record { isOpen = isOn (word 0 w); rank = word 1 w; monitor = isOn (word 2 w); due = isOn (word 3 w); strict = isOn (word 4 w) }
+lineIn w = record { isOpen = isOn (word 0 w); rank = word 1 w; monitor = isOn (word 2 w); due = isOn (word 3 w); strict = word 4 w }
 
 abbrev pub lineWords : Line → List ℕ
-lineWords l = flagged (l .isOpen) ∷ l .rank ∷ flagged (l .monitor) ∷ flagged (l .due) ∷ flagged (l .strict) ∷ 0 ∷ 0 ∷ 0 ∷ []
+lineWords l = flagged (l .isOpen) ∷ l .rank ∷ flagged (l .monitor) ∷ flagged (l .due) ∷ l .strict ∷ 0 ∷ 0 ∷ 0 ∷ []
 
 -- 02, M-100, 4: the word of the queue's row that falls with time: the ms left of the running pulse
 abbrev pub leftWord : ℕ

@@ -45,13 +45,13 @@ pub struct Relay {
     pub usageSetpoint: u64,
 }
 
-// A connection, without its half-read message. A shut one is all zero.
+// A connection, without its half-read message; strict is what its opening said. A shut one is all zero.
 pub struct Line {
     pub isOpen: bool,
     pub rank: u64,
     pub monitor: bool,
     pub due: bool,
-    pub strict: bool,
+    pub strict: u64,
 }
 
 // The queue of pulses, without its records, which stand in a row of their own: the place of the first, which runs, and how many stand; of the
@@ -127,7 +127,7 @@ pub fn line_in(row: [u64; 8]) -> Line
         rank: row[1],
         monitor: row[2] != 0,
         due: row[3] != 0,
-        strict: row[4] != 0,
+        strict: row[4],
     }
 }
 
@@ -139,7 +139,7 @@ pub fn line_words(l: Line) -> [u64; 8]
         l.rank,
         flag(l.monitor),
         flag(l.due),
-        flag(l.strict),
+        l.strict,
         0,
         0,
         0,

@@ -8,4 +8,4 @@ is-strict-spec =
     tie.close
     (tie.spec
     (λ c κs. search needs)
-    (λ c. rw (c .line-at .ensures)))
+    (λ c. rw (c .before .line-at .ensures)))
