@@ -166,8 +166,8 @@ unchecked =
     row (number (reopens 0) (blockWith 5 5) ∷ relays (reopens 0 ++ blockWith 5 5 ∷ []) ∷ []) (1 ∷ 5 ∷ []) ∷
     row (number (reopens 1 ++ reopens 0) (blockWith 5 5) ∷ relays (reopens 1 ++ reopens 0 ++ blockWith 5 5 ∷ []) ∷ []) (1 ∷ 5 ∷ []) ∷ []
 
--- 02, M-103, 3: a strict connection serves the same content with its true checksum, 0x89E0, and one whose true checksum is 0xFFFF; its 7 comes
--- before 8, so that no content with 0xFFFF, for which 0 would be true, is refused with 7
+-- 02, M-103, 3: a strict connection serves the same content with its true checksum, 0x89E0, and one whose true checksum is 0xFFFF; 7 comes
+-- before 8 there too: of an empty content, whose true checksum is 0, 0xFFFF is refused with 7
 abbrev pub checked : List Row
 checked =
     row (number (reopens 1) (sendsWith 0x89 0xE0 (block 5 5)) ∷ relays (reopens 1 ++ sendsWith 0x89 0xE0 (block 5 5) ∷ []) ∷ []) (1 ∷ 5 ∷ []) ∷

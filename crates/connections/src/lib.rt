@@ -22,7 +22,7 @@ fn shut() -> Line
     }
 }
 
-// A connection that was opened at a rank, and whether as a strict one: what was said of it is kept as it is.
+// A connection that was opened at a rank. What the opening said of its strictness is kept as it is.
 fn opened(rank: u64, strict: u64) -> Line
     ensures { λ r. ⌜ r ≡ openedLine rank strict ⌝ }
 {

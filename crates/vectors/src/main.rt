@@ -474,7 +474,7 @@ fn box_of_four() {
 
 // ---- a strict connection beside one that is not (02, M-103)
 
-// A checksum that is not the content's: 0xFFFF on 0, which is strict, and on 1, which is not; also over no content.
+// A checksum that is not the content's: 0xFFFF on 0, which is strict, and on 1, which is not; also of an empty content.
 fn unchecked(board: &mut [[u64; 8]; ROWS], halves: &mut [[u64; 3]; 4], rooms: &mut [u8; 4096]) {
     let block = b"\x01\x00\x04\xff\xff\x0a\x0a\x05\x05";
     let nothing = b"\x01\x00\x00\xff\xff";
