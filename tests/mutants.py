@@ -1670,7 +1670,7 @@ class _(Box):
         return super().obey(name, *words)
 
 
-@named("strictness held as it was said")
+@named("strictness shown as it was said")
 class _(Box):
     def open(self, c, rank, strict=0):
         answer = super().open(c, rank, strict)

@@ -1,6 +1,6 @@
 -- 02, M-103: strict connections, over the definitions that the entry points' contracts cite.
---     unchecked-served     on a connection that is not strict a frame with 0xFFFF is served, whatever its true checksum is
---     strict-checked       on a strict connection a frame is served where its checksum is the true one, 0xFFFF or not, and else refused with 7
+--     unchecked-passes     on a connection that is not strict a frame with 0xFFFF passes to its content, whatever its true checksum is
+--     strict-checked       on a strict connection a frame passes where its checksum is the true one, 0xFFFF or not, and else is refused with 7
 --     strictness-opened    a connection that an opening opened is as strict as the opening said
 --     strictness-kept      whatever call comes, a connection that was open and still is stays as strict as it was
 use mathlib.Core.Path.{_≡_, refl, sym, ap, _∙_}
@@ -16,7 +16,7 @@ use Rattle.crc.specs.Crc.{crcOf}
 use Rattle.steps.specs.Cut.{frame}
 use Rattle.framing.specs.Reading.{gotOf}
 use Rattle.rows.specs.declared.Line.{Line}
-use Rattle.rows.specs.Rows.{isOn, lineIn, lineWords}
+use Rattle.rows.specs.Rows.{isOn, lineIn, lineWords, shutLine}
 use Rattle.rows.specs.Places.{Board, isConnection, rowAt, lineAt, putLine, linePlace}
 use Rattle.rows.proofs.Views.{line-again}
 use Rattle.connections.specs.Lines.{openedLine, isOpen, isStrict, connected}
@@ -33,9 +33,9 @@ abbrev strictLine : Line → Bool
 strictLine l = isOn (l .strict)
 
 -- NOT STRICT, UNCHECKED: 01, Frame, 5, as before
-pub unchecked-served : (c : ℕ) (s : List ℕ) (b : Board) → isStrict c b ≡ false → servedMessage c (frame 0xFFFF s) b ≡ servedContent c s b
+pub unchecked-passes : (c : ℕ) (s : List ℕ) (b : Board) → isStrict c b ≡ false → servedMessage c (frame 0xFFFF s) b ≡ servedContent c s b
 unfolding servedMessage
-unchecked-served c s b lax = rw lax
+unchecked-passes c s b lax = rw lax
 
 -- STRICT, CHECKED. A whole frame on a strict connection: its checksum alone decides
 frame-checked : (c sum : ℕ) (s : List ℕ) (b : Board) → isStrict c b ≡ true
@@ -62,9 +62,9 @@ line-stored : (c : ℕ) (l : Line) (b : Board) → isOpen c b ≡ false → isOp
 unfolding lineAt putLine
 line-stored c l b = go (isConnection c)
   where
-    go : (t : Bool) → cond t (lineIn (rowAt (linePlace c) b)) (lineIn []) .isOpen ≡ false
-        → cond t (lineIn (rowAt (linePlace c) (cond t (set b (linePlace c) (lineWords l)) b))) (lineIn []) .isOpen ≡ true
-        → cond t (lineIn (rowAt (linePlace c) (cond t (set b (linePlace c) (lineWords l)) b))) (lineIn []) ≡ l
+    go : (t : Bool) → cond t (lineIn (rowAt (linePlace c) b)) shutLine .isOpen ≡ false
+        → cond t (lineIn (rowAt (linePlace c) (cond t (set b (linePlace c) (lineWords l)) b))) shutLine .isOpen ≡ true
+        → cond t (lineIn (rowAt (linePlace c) (cond t (set b (linePlace c) (lineWords l)) b))) shutLine ≡ l
     go true shut opens = stored b (linePlace c) l shut opens
     go false shut opens = absurd (true≢false (sym opens))
 
