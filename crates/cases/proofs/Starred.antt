@@ -15,7 +15,7 @@ use Rattle.changes.specs.Answers.{onInput, onRelay}
 use Rattle.changes.specs.Levels.{levelOf}
 use Rattle.edits.specs.Edits.{told, inputWritten}
 use Rattle.changes.specs.Commands.{masked, blockedRow, blockOf}
-use Rattle.devices.specs.Devices.{idOf, firstWith, deviceOf}
+use Rattle.devices.specs.Devices.{deviceOf}
 use Rattle.changes.specs.Entries.{writeInput}
 use Rattle.orders.specs.Entries.{fitsExactly}
 use Rattle.judges.specs.Judges.{sizedRequest, judgeRequest, ifSized, onChannel, judgeCommand, judgeRead, judgeWrite}
@@ -47,7 +47,7 @@ both : {xs ys : List Row} → Holds xs → Holds ys → Holds (xs ++ ys)
 both {xs} {ys} p q = record { rows = rw (map-both (λ (r : Row). r .does) xs ys, map-both (λ (r : Row). r .owes) xs ys, p .rows, q .rows) }
 
 count-top : Holds countTop
-unfolding countTop inputAt putInput onInput told levelOf idOf firstWith deviceOf inputWritten writeInput fitsExactly judgeWrite writeOf deviceDone
+unfolding countTop inputAt putInput onInput told levelOf deviceOf inputWritten writeInput fitsExactly judgeWrite writeOf deviceDone
     writtenFrom markedRow leveled put fits numberAt stepOf firstOf afterOf roomOf runOf lineAt putLine onRows orderOf openedLine marked connected
     obeyed servedContent servedMessage poweredUp halfAt putHalf bytesCall halvesAfter roomsAfter rowAfter queueOf
 count-top = record { rows = refl }
@@ -75,7 +75,7 @@ unfolding lengthCases sizedRequest judgeRequest requestOf monitorSet put fits nu
 lengths = record { rows = refl }
 
 writes : Holds writeCases
-unfolding writeCases rows chunks inputAt relayAt putInput alarmState alarmAbove alarmAtOrAbove onInput idOf firstWith deviceOf inputWritten writeInput
+unfolding writeCases rows chunks inputAt relayAt putInput alarmState alarmAbove alarmAtOrAbove onInput deviceOf inputWritten writeInput
     fitsExactly judgeRead judgeWrite readOf writeOf inputsOf relaysOf inputRow monitorReply inputBlock readings.blockOf entryOf idsIn devicesReply
     deviceDone writtenFrom monitorSent collected put fits numberAt stepOf firstOf afterOf roomOf runOf lineAt putLine onRows orderOf openedLine marked
     connected obeyed servedContent servedMessage poweredUp halfAt putHalf bytesCall halvesAfter roomsAfter rowAfter queueOf

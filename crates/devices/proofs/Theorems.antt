@@ -1,20 +1,87 @@
 -- What a reader may say aloud of the devices.
---     device-of-id    each device is found by its ID
-use mathlib.Core.Path.{_≡_, refl}
-use mathlib.Core.Logic.{⊎-elim}
-use mathlib.Core.List.{List, [], _∷_, map, List·Memᴰ, List·Memᴰ·not-nil, List·Memᴰ·cases-cons}
+--     as-listed       whatever the number, the formula finds the device that 01's list has for it, or none where the list has none
+--     ids-listed      the IDs by the formula, of all devices in the order of their listing, are those of 01's list
+--     device-of-id    each device that has an ID is found by it
+--     id-of-device    a device that is found has the ID that it was found by
+use mathlib.Core.Path.{_≡_, refl, sym, ap, _∙_}
+use mathlib.Core.Bool.{cond}
+use mathlib.Core.List.{List, [], _∷_, _++_, map}
+use Prim.Native.Nat.{ℕ, zero, suc, _+_, _≤_, _<_}
+use native.Mathlib.Omega.{arith}
+use lib.Dec.{eqb}
+use borrow.Author.Tests.{eqb-true, eqb-false, ne-eqb, le-leb}
+use Rattle.laws.proofs.Tests.{by-cases, within}
 use Rattle.devices.specs.declared.Device.{Device}
-use Rattle.devices.specs.Devices.{devices, idOf, firstWith, deviceOf}
+use Rattle.devices.specs.declared.Device.the-variants.{Din, Rout, Unknown}
+use Rattle.devices.specs.Devices.{inputs, relays, isOneOf, inputID, relayID, devices, idOf, deviceOf}
+use Rattle.devices.specs.Listed.{listed, listedFor}
+use Rattle.devices.proofs.Finding.{unknown, input-found, relay-found, by-id}
 
--- what maps a list to itself keeps each of its elements
-fixed : {A : Type 0} (f : A → A) (xs : List A) → map f xs ≡ xs → (x : A) → List·Memᴰ x xs → f x ≡ x
-fixed f [] e x m = absurd (List·Memᴰ·not-nil m)
-fixed f (y ∷ ys) e x m =
-    ⊎-elim
-    (λ (h : x ≡ y). rw h (let z : f y ≡ y = cc in z))
-    (λ (n : List·Memᴰ x ys). fixed f ys (let z : map f ys ≡ ys = cc in z) x n)
-    (List·Memᴰ·cases-cons m)
+-- so many entries of a list, those of a kind of device from number k on
+abbrev entries : (ℕ → ℕ) → (ℕ → Device) → ℕ → ℕ → List (ℕ × Device)
+entries formula kind k zero = []
+entries formula kind k (suc many) = (formula k, kind k) ∷ entries formula kind (suc k) many
 
-pub device-of-id : (d : Device) → List·Memᴰ d devices → deviceOf (idOf d) ≡ d
-unfolding idOf firstWith deviceOf
-device-of-id d m = fixed (λ x. deviceOf (idOf x)) devices refl d m
+abbrev relayEntries : List (ℕ × Device)
+relayEntries = entries relayID Rout 1 relays ++ []
+
+module _ (formula : ℕ → ℕ) (kind : ℕ → Device) (rest : List (ℕ × Device)) where
+  -- an ID that none of them has is looked for behind them
+  passed : (id k many : ℕ) → ((j : ℕ) → k ≤ j → j < k + many → formula j ≡ id → ⊥)
+      → listedFor id (entries formula kind k many ++ rest) ≡ listedFor id rest
+  unfolding listedFor
+  passed id k zero n = refl
+  passed id k (suc many) n =
+      rw (ne-eqb (formula k) id (n k (omega arith) (omega arith)))
+      (passed id (suc k) many (λ j l h. n j (omega (arith, l)) (omega (arith, h))))
+
+  -- the ID of one of them finds it, where no two have the same
+  met : ((i j : ℕ) → formula i ≡ formula j → i ≡ j) → (j k many : ℕ) → k ≤ j → j < k + many
+      → listedFor (formula j) (entries formula kind k many ++ rest) ≡ kind j
+  unfolding listedFor
+  met one j k zero l h = absurd (omega (arith, l, h))
+  met one j k (suc many) l h =
+      by-cases (eqb (formula k) (formula j))
+      (λ e. rw e (ap kind (one k j (eqb-true (formula k) (formula j) e))))
+      (λ e. let n : k ≡ j → ⊥ = λ s. eqb-false (formula k) (formula j) e (ap formula s) in
+      rw e (met one j (suc k) many (omega (arith, l, n)) (omega (arith, h))))
+
+pub as-listed : (id : ℕ) → deviceOf id ≡ listedFor id listed
+unfolding listedFor
+as-listed =
+    by-id (λ id. deviceOf id ≡ listedFor id listed)
+    (λ k l m. input-found k l m ∙ sym (met inputID Din relayEntries (λ i j e. omega (arith, e)) k 1 inputs l (omega (arith, m))))
+    (λ k l m. relay-found k l m ∙ sym (passed inputID Din relayEntries (relayID k) 1 inputs (λ j a b e. omega (arith, b, e))
+    ∙ met relayID Rout [] (λ i j e. omega (arith, e)) k 1 relays l (omega (arith, m))))
+    (λ id n m. unknown id n m ∙ sym (passed inputID Din relayEntries id 1 inputs (λ j a b. n j a (omega (arith, b)))
+    ∙ passed relayID Rout [] id 1 relays (λ j a b. m j a (omega (arith, b)))))
+
+pub ids-listed : map (λ d. (idOf d, d)) devices ≡ listed
+unfolding idOf
+ids-listed = refl
+
+-- the ID of an input, and of a relay, that has one
+input-id : (k : ℕ) → 1 ≤ k → k ≤ inputs → idOf (Din k) ≡ inputID k
+unfolding idOf
+input-id k l m = rw (le-leb 1 k l, le-leb k inputs m)
+
+relay-id : (k : ℕ) → 1 ≤ k → k ≤ relays → idOf (Rout k) ≡ relayID k
+unfolding idOf
+relay-id k l m = rw (le-leb 1 k l, le-leb k relays m)
+
+-- a number with an ID is one of so many
+one-of : (many k id : ℕ) → (cond (isOneOf many k) id 0 ≡ 0 → ⊥) → (1 ≤ k) × (k ≤ many)
+one-of many k id n = by-cases (isOneOf many k) (within 1 many k) (λ f. absurd (n (rw f)))
+
+pub device-of-id : (d : Device) → (idOf d ≡ 0 → ⊥) → deviceOf (idOf d) ≡ d
+unfolding idOf
+device-of-id (Din k) n = let w = one-of inputs k (inputID k) n in ap deviceOf (input-id k (w .0) (w .1)) ∙ input-found k (w .0) (w .1)
+device-of-id (Rout k) n = let w = one-of relays k (relayID k) n in ap deviceOf (relay-id k (w .0) (w .1)) ∙ relay-found k (w .0) (w .1)
+device-of-id Unknown n = absurd (n refl)
+
+pub id-of-device : (id : ℕ) → (deviceOf id ≡ Unknown → ⊥) → idOf (deviceOf id) ≡ id
+id-of-device =
+    by-id (λ id. (deviceOf id ≡ Unknown → ⊥) → idOf (deviceOf id) ≡ id)
+    (λ k l m s. ap idOf (input-found k l m) ∙ input-id k l m)
+    (λ k l m s. ap idOf (relay-found k l m) ∙ relay-id k l m)
+    (λ id n m s. absurd (s (unknown id n m)))

@@ -31,10 +31,10 @@ use lib.Pow.{pow-pos, pow-lt}
 use borrow.Author.Tests.{ltb-true, ltb-false, leb-false, le-leb, lt-leb, lt-ltb, le-ltb, eq-eqb, ne-eqb, eqb-true, eqb-false}
 use Rattle.laws.specs.Times.{times}
 use Rattle.laws.proofs.Flow.{times-add}
-use Rattle.laws.proofs.Tests.{by-cases}
+use Rattle.laws.proofs.Tests.{by-cases, and-left}
 use Rattle.rows.specs.declared.Queue.{Queue}
 use Rattle.rows.specs.Places.{Board, isChannel, relayAt, queueRow, queueOf, putQueue}
-use Rattle.rows.proofs.Channel.{and-left, in-range}
+use Rattle.rows.proofs.Channel.{in-range}
 use Rattle.rows.specs.Held as held
 use Rattle.laws.specs.Bits.{bitOf}
 use Rattle.tables.specs.Time.{passed}

@@ -15,7 +15,7 @@ use Rattle.crc.specs.Crc.{crcOf}
 use Rattle.steps.specs.Cut.{frame}
 use Rattle.frames.proofs.Sealing.{true-sum}
 use Rattle.rows.specs.Places.{Board, lineAt}
-use Rattle.devices.specs.Devices.{idOf, firstWith, deviceOf}
+use Rattle.devices.specs.Devices.{deviceOf}
 use Rattle.judges.specs.declared.Order.the-variants.{Read}
 use Rattle.judges.specs.Judges.{judgeRead}
 use Rattle.orders.specs.Orders.{readOf, orderOf}
@@ -51,7 +51,7 @@ length-asked (suc n) = omega (arith, length-asked n, mul-suc 8 n)
 
 -- its entry has 8 + 2 + 17 bytes, and n of them follow each other
 length-entry : (p : Board) → length (entryOf p 0x01FF) ≡ 27
-unfolding idOf firstWith deviceOf inputBlock blockOf entryOf
+unfolding deviceOf inputBlock blockOf entryOf
 length-entry p = refl
 
 length-entries : (p : Board) (n : ℕ) → length (rows (entryOf p) (map valueOf (chunks 8 n (asked n)))) ≡ 27 * n
