@@ -16,6 +16,7 @@ use Rattle.rows.proofs.relay_at.Reads as relay-at
 use Rattle.rows.proofs.put_relay.Reads as put-relay
 use Rattle.rows.proofs.line_at.Reads as line-at
 use Rattle.rows.proofs.put_line.Reads as put-line
+use Rattle.rows.proofs.set_due.Reads as set-due
 use Rattle.rows.proofs.clock.Reads as clock
 use Rattle.rows.proofs.set_clock.Reads as set-clock
 use Rattle.rows.proofs.queue_of.Reads as queue-of
@@ -66,6 +67,9 @@ unique-line-at κs a r r′ s s′ p q = p ∙ sym q
 
 pub unique-put-line : (κs : _) (a : _) (r r′ : _) (s s′ : _) → put-line.Post κs a r s → put-line.Post κs a r′ s′ → now (s .0) ≡ now (s′ .0)
 unique-put-line κs a r r′ s s′ p q = p ∙ sym q
+
+pub unique-set-due : (κs : _) (a : _) (r r′ : _) (s s′ : _) → set-due.Post κs a r s → set-due.Post κs a r′ s′ → now (s .0) ≡ now (s′ .0)
+unique-set-due κs a r r′ s s′ p q = p ∙ sym q
 
 pub unique-clock : (κs : _) (a : _) (r r′ : _) (s s′ : _) → clock.Post κs a r s → clock.Post κs a r′ s′ → r ≡ r′
 unique-clock κs a r r′ s s′ p q = p ∙ sym q

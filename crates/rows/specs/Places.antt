@@ -8,7 +8,7 @@ use Rattle.rows.specs.declared.Input.{Input}
 use Rattle.rows.specs.declared.Relay.{Relay}
 use Rattle.rows.specs.declared.Line.{Line}
 use Rattle.rows.specs.declared.Queue.{Queue}
-use Rattle.rows.specs.Rows.{word, inputIn, inputWords, relayIn, relayWords, lineIn, lineWords, leftWord, queueIn, queueWords, blankInput, blankRelay, shutLine}
+use Rattle.rows.specs.Rows.{word, inputIn, inputWords, relayIn, relayWords, lineIn, lineWords, dueWords, leftWord, queueIn, queueWords, blankInput, blankRelay, shutLine}
 
 -- the lent board: rows of words, all that the plain machine holds
 abbrev pub Board : Type 0
@@ -72,10 +72,14 @@ unfoldable pub putInput : ℕ → Input → Board → Board
 putInput k i b = cond (isChannel k) (set b (inputPlace k) (inputWords i)) b
 
 unfoldable pub putRelay : ℕ → Relay → Board → Board
-putRelay k r b = cond (isChannel k) (set b (relayPlace k) (relayWords r)) b
+putRelay k r b = cond (isChannel k) (set b (relayPlace k) (relayWords (rowAt (relayPlace k) b) r)) b
 
 unfoldable pub putLine : ℕ → Line → Board → Board
 putLine c l b = cond (isConnection c) (set b (linePlace c) (lineWords l)) b
+
+-- the board with the mark of connection c set, likewise
+unfoldable pub dueSet : ℕ → Board → Board
+dueSet c b = cond (isConnection c) (set b (linePlace c) (dueWords (rowAt (linePlace c) b))) b
 
 -- 01, What the box holds, 3: the clock is the first word of its row
 abbrev pub clockOf : Board → ℕ

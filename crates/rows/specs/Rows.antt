@@ -1,5 +1,5 @@
 -- A row of eight words and the record that it stands for. Any words at all stand for one.
-use mathlib.Core.Bool.{Bool, cond, not}
+use mathlib.Core.Bool.{Bool, true, cond, not}
 use mathlib.Core.List.{List, [], _∷_}
 use Prim.Native.Nat.{ℕ}
 use lib.Dec.{eqb}
@@ -45,12 +45,12 @@ abbrev pub inputWords : Input → List ℕ
 inputWords i =
     flagged (i .level) ∷ flagged (i .alarm) ∷ i .count ∷ i .setpointOne ∷ i .setpointTwo ∷ i .usage ∷ i .usageSetpoint ∷ 0 ∷ []
 
--- 01, What the box holds, 2: a relay in its row, and the words of a relay
+-- 01, What the box holds, 2: a relay in its row, and that row with another relay in it; the words that a relay does not have stay
 abbrev pub relayIn : List ℕ → Relay
 relayIn w = record { closed = isOn (word stateWord w); usage = word usageWord w; usageSetpoint = word 6 w }
 
-abbrev pub relayWords : Relay → List ℕ
-relayWords r = flagged (r .closed) ∷ 0 ∷ 0 ∷ 0 ∷ 0 ∷ r .usage ∷ r .usageSetpoint ∷ 0 ∷ []
+abbrev pub relayWords : List ℕ → Relay → List ℕ
+relayWords w r = flagged (r .closed) ∷ word 1 w ∷ word 2 w ∷ word 3 w ∷ word 4 w ∷ r .usage ∷ r .usageSetpoint ∷ word 7 w ∷ []
 
 -- 01, What the box holds, 4, and 02, M-103, 2: a connection in its row, without its half-read message, and its words
 abbrev pub lineIn : List ℕ → Line
@@ -58,6 +58,10 @@ lineIn w = record { isOpen = isOn (word 0 w); rank = word 1 w; monitor = isOn (w
 
 abbrev pub lineWords : Line → List ℕ
 lineWords l = flagged (l .isOpen) ∷ l .rank ∷ flagged (l .monitor) ∷ flagged (l .due) ∷ l .strict ∷ 0 ∷ 0 ∷ 0 ∷ []
+
+-- 01, Events, 6: a connection's row with the mark set; no other word changes
+abbrev pub dueWords : List ℕ → List ℕ
+dueWords w = word 0 w ∷ word 1 w ∷ word 2 w ∷ flagged true ∷ word 4 w ∷ word 5 w ∷ word 6 w ∷ word 7 w ∷ []
 
 -- 02, M-100, 4: the word of the queue's row that falls with time: the ms left of the running pulse
 abbrev pub leftWord : ℕ

@@ -4,8 +4,8 @@
 // and a store to it does nothing.
 
 ghost use mathlib.Core.Path.{_≡_};
-ghost use Rattle.rows.specs.Rows.{flagged, inputIn, inputWords, relayIn, relayWords, lineIn, lineWords, queueIn, queueWords};
-ghost use Rattle.rows.specs.Places.{isChannel, inputAt, putInput, relayAt, putRelay, lineAt, putLine, clockOf, clockSet, queueOf, putQueue, leftSet};
+ghost use Rattle.rows.specs.Rows.{flagged, inputIn, inputWords, relayIn, relayWords, lineIn, lineWords, dueWords, queueIn, queueWords};
+ghost use Rattle.rows.specs.Places.{isChannel, inputAt, putInput, relayAt, putRelay, lineAt, putLine, dueSet, clockOf, clockSet, queueOf, putQueue, leftSet};
 
 // The first row of each kind, and the number of rows: here alone, as in specs/Places; what comes new is appended.
 pub const FIRST_INPUT: usize = 0;
@@ -113,10 +113,20 @@ pub fn relay_in(row: [u64; 8]) -> Relay
     }
 }
 
-pub fn relay_words(r: Relay) -> [u64; 8]
-    ensures { λ w. ⌜ w ≡ relayWords r ⌝ }
+// A relay in a relay's row. The words that it does not have stay, so that nothing is stored for them.
+pub fn relay_words(row: [u64; 8], r: Relay) -> [u64; 8]
+    ensures { λ w. ⌜ w ≡ relayWords row r ⌝ }
 {
-    [flag(r.closed), 0, 0, 0, 0, r.usage, r.usageSetpoint, 0]
+    [
+        flag(r.closed),
+        row[1],
+        row[2],
+        row[3],
+        row[4],
+        r.usage,
+        r.usageSetpoint,
+        row[7],
+    ]
 }
 
 pub fn line_in(row: [u64; 8]) -> Line
@@ -144,6 +154,13 @@ pub fn line_words(l: Line) -> [u64; 8]
         0,
         0,
     ]
+}
+
+// A connection's row with the mark set; every other word stays.
+fn due_words(row: [u64; 8]) -> [u64; 8]
+    ensures { λ w. ⌜ w ≡ dueWords row ⌝ }
+{
+    [row[0], row[1], row[2], 1, row[4], row[5], row[6], row[7]]
 }
 
 pub fn queue_in(row: [u64; 8]) -> Queue
@@ -216,7 +233,9 @@ pub fn put_relay(board: &mut [[u64; 8]; ROWS], k: usize, r: Relay)
     ensures { λ u. ⌜ now (board .exit) ≡ putRelay k r (now (board .entry)) ⌝ }
 {
     if is_channel(k) {
-        board[k - 1 + FIRST_RELAY] = relay_words(r);
+        let at = k - 1 + FIRST_RELAY;
+        let row = board[at];
+        board[at] = relay_words(row, r);
     }
 }
 
@@ -235,6 +254,17 @@ pub fn put_line(board: &mut [[u64; 8]; ROWS], c: usize, l: Line)
 {
     if c < 4 {
         board[c + FIRST_LINE] = line_words(l);
+    }
+}
+
+// The mark of a connection, and no other word of it.
+pub fn set_due(board: &mut [[u64; 8]; ROWS], c: usize)
+    ensures { λ u. ⌜ now (board .exit) ≡ dueSet c (now (board .entry)) ⌝ }
+{
+    if c < 4 {
+        let at = c + FIRST_LINE;
+        let row = board[at];
+        board[at] = due_words(row);
     }
 }
 
