@@ -6,16 +6,16 @@ use Prim.Native.Nat.{ℕ, _<_}
 use borrow.Author.Tests.{lt-ltb}
 use lib.ListN.{set}
 use lib.Seq.{set-getD}
-use Rattle.rows.specs.Rows.{lineIn, lineWords}
-use Rattle.rows.specs.Places.{Board, rowAt, lineAt, putLine, linePlace}
-use Rattle.marks.specs.Marks.{withDue, watches, markedRow}
+use Rattle.rows.specs.Rows.{lineIn, dueWords}
+use Rattle.rows.specs.Places.{Board, rowAt, lineAt, dueSet, linePlace}
+use Rattle.marks.specs.Marks.{watches, markedRow}
 
-pub marked-row : (c : ℕ) (b b′ : Board) → c < 4 → b′ ≡ cond (watches (lineAt c b)) (putLine c (withDue true (lineAt c b)) b) b
+pub marked-row : (c : ℕ) (b b′ : Board) → c < 4 → b′ ≡ cond (watches (lineAt c b)) (dueSet c b) b
     → b′ ≡ set b (linePlace c) (markedRow (rowAt (linePlace c) b))
-unfolding lineAt putLine markedRow
+unfolding lineAt dueSet markedRow
 marked-row c b b′ h e = e ∙ rw (lt-ltb c 4 h) (go (watches (lineIn (rowAt (linePlace c) b))))
   where
-    go : (t : Bool) → cond t (set b (linePlace c) (lineWords (withDue true (lineIn (rowAt (linePlace c) b))))) b
-        ≡ set b (linePlace c) (cond t (lineWords (withDue true (lineIn (rowAt (linePlace c) b)))) (rowAt (linePlace c) b))
+    go : (t : Bool) → cond t (set b (linePlace c) (dueWords (rowAt (linePlace c) b))) b
+        ≡ set b (linePlace c) (cond t (dueWords (rowAt (linePlace c) b)) (rowAt (linePlace c) b))
     go true = refl
     go false = sym (set-getD b (linePlace c) [])

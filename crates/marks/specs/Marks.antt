@@ -1,10 +1,10 @@
 -- The due marks of the connections: 01, Events, 3 and 6.
-use mathlib.Core.Bool.{Bool, true, cond, _&&_}
+use mathlib.Core.Bool.{Bool, cond, _&&_}
 use mathlib.Core.List.{List}
 use Prim.Native.Nat.{ℕ}
 use lib.Dec.{leb}
 use Rattle.rows.specs.declared.Line.{Line}
-use Rattle.rows.specs.Rows.{lineIn, lineWords}
+use Rattle.rows.specs.Rows.{lineIn, dueWords}
 use Rattle.rows.specs.Places.{Board, onRows, firstLine}
 
 -- 01, What the box holds, 4, and 02, M-103, 2: a connection by its parts
@@ -29,7 +29,7 @@ watches l = l .isOpen && (hasRank (l .rank) && l .monitor)
 
 -- its row with the mark; another keeps every word
 unfoldable pub markedRow : List ℕ → List ℕ
-markedRow row = cond (watches (lineIn row)) (lineWords (withDue true (lineIn row))) row
+markedRow row = cond (watches (lineIn row)) (dueWords row) row
 
 -- 01, Events, 6: where something really changed, Monitor becomes due on all of these, also on the one whose message it was
 unfoldable pub marked : Bool → Board → Board

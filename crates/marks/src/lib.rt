@@ -2,9 +2,9 @@
 // Takes every board, nonsense words too.
 
 ghost use mathlib.Core.Path.{_≡_};
-ghost use mathlib.Core.Bool.{_&&_, cond, true};
-ghost use Rattle.rows.specs.Places.{lineAt, putLine};
-ghost use Rattle.marks.specs.Marks.{hasRank, withDue, watches, marked};
+ghost use mathlib.Core.Bool.{_&&_, cond};
+ghost use Rattle.rows.specs.Places.{lineAt, dueSet};
+ghost use Rattle.marks.specs.Marks.{hasRank, watches, marked};
 use rows::Line;
 use rows::ROWS;
 
@@ -28,12 +28,10 @@ fn watching(l: Line) -> bool
 }
 
 fn mark_line(board: &mut [[u64; 8]; ROWS], c: usize)
-    ensures { λ u. ⌜ now (board .exit) ≡ cond (watches (lineAt c (now (board .entry)))) (putLine c (withDue true (lineAt c (now (board .entry)))) (now (board .entry))) (now (board .entry)) ⌝ }
+    ensures { λ u. ⌜ now (board .exit) ≡ cond (watches (lineAt c (now (board .entry)))) (dueSet c (now (board .entry))) (now (board .entry)) ⌝ }
 {
-    let mut line = rows::line_at(board, c);
-    if watching(line) {
-        line.due = true;
-        rows::put_line(board, c, line);
+    if watching(rows::line_at(board, c)) {
+        rows::set_due(board, c);
     }
 }
 

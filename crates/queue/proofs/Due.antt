@@ -20,7 +20,6 @@ use Rattle.rows.specs.declared.Relay.{Relay}
 use Rattle.rows.specs.Rows.{lineIn, relayIn, blankRelay}
 use Rattle.rows.specs.Places.{Board, isChannel, rowAt, relayAt, lineAt, firstRelay, relayPlace, clockRow, firstLine, linePlace, queueRow, queueOf, putQueue, onRows}
 use Rattle.rows.proofs.Range.{beyond}
-use Rattle.rows.proofs.Views.{line-again}
 use Rattle.laws.specs.Bits.{bitOf}
 use Rattle.changes.specs.Commands.{masked, blocked, blockMoves, blockedRow, blockOf}
 use Rattle.changes.proofs.Making.{differ-same}
@@ -58,7 +57,7 @@ line-in : (row : List ℕ) → lineIn (markedRow row) ≡ cond (watches (lineIn 
 unfolding markedRow
 line-in row =
     by-cases (watches (lineIn row))
-    (λ t. rw t (line-again (withDue true (lineIn row))))
+    (λ t. rw t)
     (λ f. rw f)
 
 row-marked : (c : ℕ) (b : Board) → c < 4 → lineIn (rowAt (linePlace c) (onRows firstLine 4 (λ _. markedRow) b)) ≡ lineIn (markedRow (rowAt (linePlace c) b))

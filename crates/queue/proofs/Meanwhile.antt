@@ -75,7 +75,7 @@ module _ (z : Board) (r : runs (queueOf z) ≡ true) where
   unfolding onRelay putRelay
   relay-beside f k =
       by-cases (isChannel k)
-      (λ t. let h = in-range k (sym t) refl in rw t (set-beside (relayPlace k) (relayWords (f (relayAt k z))) (omega (arith, h))))
+      (λ t. let h = in-range k (sym t) refl in rw t (set-beside (relayPlace k) (relayWords (rowAt (relayPlace k) z) (f (relayAt k z))) (omega (arith, h))))
       (λ n. rw n same-beside)
 
   pub level-beside : (k v : ℕ) → Beside z (levelOf k v z .board)

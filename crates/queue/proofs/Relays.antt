@@ -90,7 +90,7 @@ module _ (mask states : ℕ) (b : Board) where
 
   -- a relay that is masked
   masked-row : (k : ℕ) → k < 8 → clockRow ≤ length b → bitOf mask k ≡ true
-      → rowAt (relayPlace (k + 1)) (switched mask states b) ≡ relayWords (held.switched (bitOf states k) (relayAt (k + 1) b))
+      → rowAt (relayPlace (k + 1)) (switched mask states b) ≡ relayWords (rowAt (relayPlace (k + 1)) b) (held.switched (bitOf states k) (relayAt (k + 1) b))
   unfolding relayAt blockedRow
   masked-row k h l m =
       rw (channel k h, seat k)
@@ -99,7 +99,8 @@ module _ (mask states : ℕ) (b : Board) where
   pub switched-masked : (k : ℕ) → k < 8 → clockRow ≤ length b → bitOf mask k ≡ true
       → relayAt (k + 1) (switched mask states b) ≡ held.switched (bitOf states k) (relayAt (k + 1) b)
   switched-masked k h l m =
-      relay-of k h (switched mask states b) ∙ ap relayIn (masked-row k h l m) ∙ relay-again (held.switched (bitOf states k) (relayAt (k + 1) b))
+      relay-of k h (switched mask states b) ∙ ap relayIn (masked-row k h l m)
+      ∙ relay-again (rowAt (relayPlace (k + 1)) b) (held.switched (bitOf states k) (relayAt (k + 1) b))
 
   -- one that is not
   pub switched-unmasked : (k : ℕ) → k < 8 → bitOf mask k ≡ false → rowAt (relayPlace (k + 1)) (switched mask states b) ≡ rowAt (relayPlace (k + 1)) b

@@ -77,11 +77,11 @@ written-small flags count was h k = go (hasFlag flags 2) (hasFlag flags 1)
 
 mark-small : (row : List ℕ) → countIn row ≤ most → countIn (markedRow row) ≤ most
 unfolding markedRow
-mark-small row h = by-cases (watches (lineIn row)) (λ q. rw q (flag-small (lineIn row .monitor))) (λ q. rw q h)
+mark-small row h = by-cases (watches (lineIn row)) (λ q. rw q h) (λ q. rw q h)
 
 block-small : (mask state k : ℕ) (row : List ℕ) → countIn row ≤ most → countIn (blockedRow mask state k row) ≤ most
 unfolding blockedRow
-block-small mask state k row h = by-cases (bitOf mask k) (λ q. rw q zero-le) (λ q. rw q h)
+block-small mask state k row h = by-cases (bitOf mask k) (λ q. rw q h) (λ q. rw q h)
 
 usage-alone : (d : ℕ) (row : List ℕ) → countIn row ≤ most → countIn (usagePassed d row) ≤ most
 unfolding usagePassed
@@ -143,7 +143,7 @@ module _ (b : Board) (f : Fit b) where
 
   relay-fits : (k : ℕ) (r : Relay) → Fit (putRelay k r b)
   unfolding putRelay
-  relay-fits k r = by-cases (isChannel k) (λ q. rw q (stores (relayPlace k) _ b zero-le f)) (λ q. rw q f)
+  relay-fits k r = by-cases (isChannel k) (λ q. rw q (behind-fits (relayPlace k) _ b (omega arith) f)) (λ q. rw q f)
 
   line-fits : (c : ℕ) (l : Line) → Fit (putLine c l b)
   unfolding putLine
@@ -264,7 +264,7 @@ message-fits c (frame sum s) b h f = frame-cases c sum s b (λ d. Fit (d .board)
 pub counts-at-power-up : (s : Settings) → CountsFit (poweredUp s)
 unfolding poweredUp
 counts-at-power-up s =
-    inputs-fit (changes firstRelay 8 _ _ (λ k row h. zero-le)
+    inputs-fit (changes firstRelay 8 _ _ (λ k row h. h)
     (changes firstInput 8 _ _ (λ k row h. zero-le) (record { row = λ j l. rw (zeros rows j) zero-le })))
   where
     zeros : (n j : ℕ) → countIn (rowAt j (replicate n (replicate 8 0))) ≡ 0

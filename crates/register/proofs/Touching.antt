@@ -151,7 +151,7 @@ line-touches c l b e = record { as-opened = record { of = line-as-opened c l b e
 
 mark-alone : (row : List ℕ) → unmarked (markedRow row) ≡ unmarked row
 unfolding markedRow
-mark-alone row = by-cases (watches (lineIn row)) (λ h. rw h (ap (withDue false) (line-again (withDue true (lineIn row))))) (λ h. rw h)
+mark-alone row = by-cases (watches (lineIn row)) (λ h. rw h) (λ h. rw h)
 
 marked-stays : (changed : Bool) (b : Board) → Unmarked b (marked changed b)
 unfolding marked

@@ -13,5 +13,5 @@ mark-line-spec =
     (λ c κs. search needs)
     (λ c. let t = c .before .before in
     let l = t .before .before in
-    rw (sym (l .line-at .ensures), sym (t .before .watching .ensures) ∙ t .if1 .taken) (c .put-line .ensures))
+    rw (sym (l .line-at .ensures), sym (t .before .watching .ensures) ∙ t .if1 .taken) (c .set-due .ensures))
     (λ c. rw (sym (c .before .before .line-at .ensures), sym (c .before .watching .ensures) ∙ c .if1 .left)))
