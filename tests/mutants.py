@@ -70,6 +70,24 @@ class _(Box):
         return super().read_block(id & TOP32)
 
 
+def finding(name, taken_for):
+    """A box that takes an ID for another, where it reads and where it writes."""
+    @named(name)
+    class _(Box):
+        def read_block(self, id):
+            return super().read_block(taken_for(id))
+
+        def write_entry(self, id, block):
+            return super().write_entry(taken_for(id), block)
+
+
+finding("ID 256k + 254 found", lambda id: id + 1 if id & 0xFF == 0xFE else id)
+finding("input 0 found", lambda id: 0x01FF if id == 0x00FF else id)
+finding("relay 0 found", lambda id: 0x0101FF if id == 0x0100FF else id)
+finding("relay 9 found", lambda id: 0x0108FF if id == 0x0109FF else id)
+finding("ID's highest bit not looked at", lambda id: id & TOP64 >> 1)
+
+
 @named("length of a frame kept in 16 bits")
 class _(Box):
     def message_end(self, joined):

@@ -5,7 +5,8 @@
 
 ghost use mathlib.Core.Path.{_≡_};
 ghost use Rattle.rows.specs.Rows.{flagged, inputIn, inputWords, relayIn, relayWords, lineIn, lineWords, dueWords, queueIn, queueWords};
-ghost use Rattle.rows.specs.Places.{isChannel, inputAt, putInput, relayAt, putRelay, lineAt, putLine, dueSet, clockOf, clockSet, queueOf, putQueue, leftSet};
+ghost use Rattle.rows.specs.Places.{isChannel, inputAt, putInput, relayAt, putRelay, lineAt, putLine, dueSet};
+ghost use Rattle.rows.specs.Places.{clockOf, clockSet, queueOf, putQueue, leftSet};
 
 // The first row of each kind, and the number of rows: here alone, as in specs/Places; what comes new is appended.
 pub const FIRST_INPUT: usize = 0;
