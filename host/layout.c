@@ -99,6 +99,14 @@ static wellacorn_line *listening(uint8_t c)
     return line;
 }
 
+/* The same, but strict, by words that no call stores: a mark leaves them as they are. */
+static void watching(uint8_t c)
+{
+    board->lines[c].rank = 2;
+    board->lines[c].due = 0;
+    expected.box.halves[c] = nothing_read;
+}
+
 static uint8_t *room_of(uint8_t c)
 {
     return expected.box.rooms + (size_t)WELLACORN_CONTENT * c;
@@ -150,7 +158,8 @@ static void try_power_up(int alarmed)
     same_lent("power-up");
 }
 
-/* ---- The board: each field where a call changes it. A call writes a row anew: flags as 0 and 1, unused words as 0. */
+/* ---- The board: each field where a call changes it. An input and a connection are stored with their row: flags as 0 and 1, unused words as 0.
+ * Of a relay no unused word is stored, and with a mark no other word. */
 
 /* Input k alone is on, and relay k alone is closed. */
 static void try_pass(int k)
@@ -172,7 +181,7 @@ static void try_level(uint8_t k, uint8_t c)
 {
     wellacorn_input *in = &board->inputs[k - 1];
     scribble();
-    listening(c);
+    watching(c);
     in->level = 0;
     in->count = UINT32_MAX - 1;
     begin();
@@ -187,12 +196,12 @@ static void try_close_relay(uint8_t k, uint8_t c)
 {
     wellacorn_relay *relay = &board->relays[k - 1];
     scribble();
-    listening(c);
+    watching(c);
     relay->closed = 0;
     begin();
-    *relay = (wellacorn_relay){.closed = 1, .usage = relay->usage, .usage_setpoint = relay->usage_setpoint};
+    relay->closed = 1;
     board->lines[c].due = 1;
-    send("a relay is closed", c, (const uint8_t[]){10, 1, 0, k}, 4);
+    send_checked("a relay is closed", c, (const uint8_t[]){10, 1, 0, k}, 4);
 }
 
 /* The byte that says strict stands in the board as it is. */
