@@ -60,28 +60,24 @@ pub ids-listed : map (λ d. (idOf d, d)) devices ≡ listed
 unfolding idOf
 ids-listed = refl
 
--- the ID of an input, and of a relay, that has one
-input-id : (k : ℕ) → 1 ≤ k → k ≤ inputs → idOf (Din k) ≡ inputID k
-unfolding idOf
-input-id k l m = rw (le-leb 1 k l, le-leb k inputs m)
+-- one of so many has its ID
+given : (many k id : ℕ) → 1 ≤ k → k ≤ many → cond (isOneOf many k) id 0 ≡ id
+given many k id l m = rw (le-leb 1 k l, le-leb k many m)
 
-relay-id : (k : ℕ) → 1 ≤ k → k ≤ relays → idOf (Rout k) ≡ relayID k
-unfolding idOf
-relay-id k l m = rw (le-leb 1 k l, le-leb k relays m)
-
--- a number with an ID is one of so many
+-- and a number with an ID is one of them
 one-of : (many k id : ℕ) → (cond (isOneOf many k) id 0 ≡ 0 → ⊥) → (1 ≤ k) × (k ≤ many)
 one-of many k id n = by-cases (isOneOf many k) (within 1 many k) (λ f. absurd (n (rw f)))
 
 pub device-of-id : (d : Device) → (idOf d ≡ 0 → ⊥) → deviceOf (idOf d) ≡ d
 unfolding idOf
-device-of-id (Din k) n = let w = one-of inputs k (inputID k) n in ap deviceOf (input-id k (w .0) (w .1)) ∙ input-found k (w .0) (w .1)
-device-of-id (Rout k) n = let w = one-of relays k (relayID k) n in ap deviceOf (relay-id k (w .0) (w .1)) ∙ relay-found k (w .0) (w .1)
+device-of-id (Din k) n = let w = one-of inputs k (inputID k) n in ap deviceOf (given inputs k (inputID k) (w .0) (w .1)) ∙ input-found k (w .0) (w .1)
+device-of-id (Rout k) n = let w = one-of relays k (relayID k) n in ap deviceOf (given relays k (relayID k) (w .0) (w .1)) ∙ relay-found k (w .0) (w .1)
 device-of-id Unknown n = absurd (n refl)
 
 pub id-of-device : (id : ℕ) → (deviceOf id ≡ Unknown → ⊥) → idOf (deviceOf id) ≡ id
+unfolding idOf
 id-of-device =
     by-id (λ id. (deviceOf id ≡ Unknown → ⊥) → idOf (deviceOf id) ≡ id)
-    (λ k l m s. ap idOf (input-found k l m) ∙ input-id k l m)
-    (λ k l m s. ap idOf (relay-found k l m) ∙ relay-id k l m)
+    (λ k l m s. ap idOf (input-found k l m) ∙ given inputs k (inputID k) l m)
+    (λ k l m s. ap idOf (relay-found k l m) ∙ given relays k (relayID k) l m)
     (λ id n m s. absurd (s (unknown id n m)))

@@ -41,7 +41,7 @@ pub fn device_of(id: u64) -> Device
     Device::Unknown
 }
 
-// The ID of number k of so many, before which this much is added; 0 where k is none of them.
+// The ID of number k of so many: 256k + 255, and `before` in front of it; 0 where k is none of them.
 fn id_from(before: u64, many: u64, k: u8) -> u64
     requires { ⌜ before ≤ 65536 ⌝ }
     ensures { λ r. ⌜ r ≡ cond (isOneOf many k) (before + 256 * k + 255) 0 ⌝ }
