@@ -2,9 +2,10 @@
  *
  *     bench [--rounds N]
  *
- * First each workload is done by both, and the two must agree in every sum, in the reply and in all that the box holds. Then it is
- * measured in rounds; in each both come once, and the one that comes first changes. A figure is the median of its rounds, in processor
- * time, so that what else the machine does weighs little. Both boxes change what they hold in place.
+ * First each workload is done by both, and the two must agree in every sum, in the reply and in all that the box holds; so must they on frames
+ * of wrong lengths, which are not measured. Then each workload is measured in rounds; in each both come once, and the one that comes first
+ * changes. A figure is the median of its rounds, in processor time, so that what else the machine does weighs little. Both boxes change what they
+ * hold in place.
  *
  * host/bench runs it too, also with rows added to the board, and measures the host that answers on the network.
  */
@@ -167,6 +168,28 @@ static void make_stream(uint8_t stream[STREAM])
     }
 }
 
+/* A content of any type cut somewhere, or with up to seven bytes behind it; now and then it has its length. */
+static size_t crooked_content(uint8_t *content)
+{
+    size_t n = random_below(8) == 0 ? pulse(content, 1, random_below(256), 0x55, 1) : any_content(content);
+    return 1 + random_below((unsigned)n + 7);
+}
+
+/* Frames of them one behind the other, each with its true checksum. Filled up with keep-alives. */
+static void make_crooked(uint8_t stream[STREAM])
+{
+    memset(stream, 0x06, STREAM);
+    for (size_t at = 0;;) {
+        uint8_t frame[HEADER + WELLACORN_CONTENT] = {0};
+        size_t n = seal(frame, crooked_content(frame + HEADER));
+        if (n > STREAM - at) {
+            return;
+        }
+        memcpy(stream + at, frame, n);
+        at += n;
+    }
+}
+
 /* ---- Rows */
 
 typedef struct {
@@ -192,7 +215,7 @@ enum {
 static uint8_t commands[COMMANDS * SMALL];
 static uint8_t short_pulse[ASKED], long_pulse[ASKED];
 static uint8_t short_pulses[WELLACORN_PULSES * ASKED];
-static uint8_t stream[STREAM];
+static uint8_t stream[STREAM], crooked[STREAM];
 static uint8_t many[READ];
 static uint8_t oversize[OVERSIZE];
 
@@ -211,6 +234,9 @@ static const row rows[] = {
 
 enum { ROWS = sizeof rows / sizeof rows[0] };
 
+/* Compared and not measured: nobody waits for a refusal. */
+static const row wrong_lengths = {"frames of wrong lengths, drained from 64 KiB", "bytes", STREAM, DRAIN, crooked, STREAM, 0};
+
 static void make_messages(void)
 {
     for (size_t i = 0; i < COMMANDS; i++) {
@@ -225,6 +251,7 @@ static void make_messages(void)
     seal(many, read_devices(many + HEADER, 127, 16));
     oversize[0] = 0x01;
     put(oversize + 1, 2, 65535);
+    make_crooked(crooked);      /* last, so that the random numbers of what is measured stay those of earlier figures */
 }
 
 /* ---- Both sides */
@@ -260,8 +287,21 @@ static bool agree(const row *r)
     peer_side.fresh();
     workload_tally one = run(&library_side, r, 2);
     workload_tally other = run(&peer_side, r, 2);
-    return one.answers == other.answers && one.taken == other.taken && one.len == other.len && same_held() &&
+    return one.answers == other.answers && one.taken == other.taken && one.places == other.places && one.len == other.len && same_held() &&
            memcmp(library_side.reply, peer_side.reply, WELLACORN_REPLY) == 0;
+}
+
+/* Says where they do not. */
+static bool all_agree(void)
+{
+    for (size_t i = 0; i <= ROWS; i++) {
+        const row *r = i < ROWS ? &rows[i] : &wrong_lengths;
+        if (!agree(r)) {
+            printf("bench: library and peer differ: %s\n", r->name);
+            return false;
+        }
+    }
+    return true;
 }
 
 static double seconds(void)
@@ -278,7 +318,7 @@ static double time_of(const workload_side *side, const row *r, size_t times)
     double start = seconds();
     workload_tally t = run(side, r, times);
     double end = seconds();
-    sink += t.answers + t.taken + t.len;
+    sink += t.answers + t.taken + t.places + t.len;
     return end - start;
 }
 
@@ -351,11 +391,8 @@ int main(int argc, char **argv)
         return EXIT_FAILURE;
     }
     make_messages();
-    for (size_t i = 0; i < ROWS; i++) {
-        if (!agree(&rows[i])) {
-            printf("bench: library and peer differ: %s\n", rows[i].name);
-            return EXIT_FAILURE;
-        }
+    if (!all_agree()) {
+        return EXIT_FAILURE;
     }
     printf("Medians of %zu rounds, buffers not cleared between calls. ", rounds);
     printf("Ratio: peer time / library time, above 1 where the library is faster.\n");

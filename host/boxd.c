@@ -57,6 +57,7 @@ typedef struct {
     line lines[WELLACORN_CONNECTIONS];
     login logins[WELLACORN_CONNECTIONS];
     heard heard[WELLACORN_CONNECTIONS];
+    refusal last_refused;       /* on any connection */
     guest guests[GUESTS];
     morning morning;
     commands commands;
@@ -128,20 +129,33 @@ static size_t not_offered(const host *h, uint8_t c, const came *it, const uint8_
     return it->done.answer == WELLACORN_NOT_OFFERED ? box_content(&h->box, c, it, content) : 0;
 }
 
-/* Who has logged in may ask how many pulses stand. Whether it was that. */
-static bool answers_custom(host *h, uint8_t c, const came *it)
+/* What a message asks the host: nothing, if nobody has logged in. */
+static custom_question asked_of_host(const host *h, uint8_t c, const came *it)
 {
     const uint8_t *content;
-    const wellacorn_board *board = &h->box.lent.board;
     size_t n = not_offered(h, c, it, &content);
-    if (n == 0 || board->lines[c].rank == 0 || !custom_asks_pulses(content, n)) {
+    return n == 0 || h->box.lent.board.lines[c].rank == 0 ? CUSTOM_NONE : custom_asks(content, n);
+}
+
+/* Answers a question to the host. Whether it was one. */
+static bool answers_custom(host *h, uint8_t c, const came *it)
+{
+    const wellacorn_board *board = &h->box.lent.board;
+    custom_question asked = asked_of_host(h, c, it);
+    if (asked == CUSTOM_NONE) {
         return false;
     }
-    uint8_t answer[CUSTOM_ANSWER], frame[5 + CUSTOM_ANSWER];
-    custom_pulses(answer, board);
-    line_queue(&h->lines[c], frame, frame_of(frame, answer, sizeof answer));
+    uint8_t answer[CUSTOM_LONGEST], frame[5 + CUSTOM_LONGEST];
+    size_t n;
     told_rest(&h->heard[c], c);
-    say("connection %u asked how many pulses stand: %" PRIu64, c, board->queue.standing);
+    if (asked == CUSTOM_PULSES) {
+        n = custom_pulses(answer, board);
+        say("connection %u asked how many pulses stand: %" PRIu64, c, board->queue.standing);
+    } else {
+        n = custom_refused(answer, &h->last_refused, h->now);
+        say("connection %u asked which message was refused last", c);
+    }
+    line_queue(&h->lines[c], frame, frame_of(frame, answer, n));
     return true;
 }
 
@@ -215,6 +229,7 @@ static void serve(host *h, uint8_t c)
         line_queue(l, h->box.reply, it.done.len);
         if (!begins_login(h, c, &it) && !answers_custom(h, c, &it)) {
             told_bytes(&h->heard[c], &h->box, c, &it);
+            custom_heard(&h->last_refused, &h->box, c, &it, h->now);
         }
     }
     if (line_untaken(l, &piece) == 0) {

@@ -5,17 +5,83 @@
 
 enum { ANSWER_TYPE = 254, GOOD = 0 };
 
-bool custom_asks_pulses(const uint8_t *content, size_t n)
+/* ---- Questions */
+
+static bool is_named(const char *name, const uint8_t *content, size_t n)
 {
-    static const uint8_t asks[] = {CUSTOM_TYPE, 6, 'p', 'u', 'l', 's', 'e', 's', 0, 0, 0};
-    return n == sizeof asks && memcmp(content, asks, sizeof asks) == 0;
+    static const uint8_t behind[] = {0, 0, 0};      /* command type, payload size */
+    size_t length = strlen(name);
+    return n == 2 + length + sizeof behind && content[0] == CUSTOM_TYPE && content[1] == length && memcmp(content + 2, name, length) == 0 &&
+           memcmp(content + 2 + length, behind, sizeof behind) == 0;
 }
 
-void custom_pulses(uint8_t content[CUSTOM_ANSWER], const wellacorn_board *board)
+custom_question custom_asks(const uint8_t *content, size_t n)
 {
-    content[0] = ANSWER_TYPE;
-    content[1] = GOOD;
-    content[2] = 0;
-    content[3] = 1;
-    content[4] = (uint8_t)board->queue.standing;
+    return is_named("pulses", content, n) ? CUSTOM_PULSES : is_named("refused", content, n) ? CUSTOM_REFUSED : CUSTOM_NONE;
+}
+
+/* ---- Answers */
+
+/* A number into `size` bytes, the highest first. Gives the place behind it. */
+static uint8_t *put(uint8_t *p, int size, uint64_t number)
+{
+    for (int i = size - 1; i >= 0; i--, number >>= 8) {
+        p[i] = (uint8_t)number;
+    }
+    return p + size;
+}
+
+static uint8_t *put_head(uint8_t *p, uint64_t payload)
+{
+    p = put(p, 1, ANSWER_TYPE);
+    p = put(p, 1, GOOD);
+    return put(p, 2, payload);
+}
+
+size_t custom_pulses(uint8_t content[CUSTOM_LONGEST], const wellacorn_board *board)
+{
+    uint8_t *p = put_head(content, 1);
+    p = put(p, 1, board->queue.standing);
+    return (size_t)(p - content);
+}
+
+size_t custom_refused(uint8_t content[CUSTOM_LONGEST], const refusal *last, uint64_t now)
+{
+    static const refusal none;
+    const refusal *told = last->is_one ? last : &none;
+    uint64_t seconds = last->is_one ? (now - last->at) / 1000 : 0;
+    uint8_t *p = put_head(content, 10);
+    p = put(p, 1, (uint64_t)told->is_one + told->has_type);
+    p = put(p, 1, told->connection);
+    p = put(p, 1, told->type);
+    p = put(p, 1, told->answer);
+    p = put(p, 2, told->place);
+    p = put(p, 4, seconds < UINT32_MAX ? seconds : UINT32_MAX);
+    return (size_t)(p - content);
+}
+
+/* ---- What was refused */
+
+/* Of the answers to bytes on an open connection, those below it are of a piece, of a message that was served and of single bytes. */
+static bool is_refused(uint8_t answer)
+{
+    return answer >= WELLACORN_TOO_LONG;
+}
+
+void custom_heard(refusal *last, const box *b, uint8_t c, const came *it, uint64_t now)
+{
+    const uint8_t *content;
+    if (!is_refused(it->done.answer)) {
+        return;
+    }
+    bool has_type = box_content(b, c, it, &content) > 0;
+    *last = (refusal){
+        .is_one = true,
+        .has_type = has_type,
+        .type = has_type ? content[0] : 0,
+        .connection = c,
+        .answer = it->done.answer,
+        .place = it->done.place,
+        .at = now,
+    };
 }

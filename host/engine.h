@@ -1,8 +1,8 @@
 /* One way to call a box, over the library or, under ENGINE_PEER, over the plain C peer. What uses it is compiled for one of the two.
  *
  * An engine holds the box but for the row of pulses, which the caller lends in its own length: records of the type engine_pulse, whose
- * numbers engine_pulse_in gives. It also holds what the last call came to in `answer`, `taken` and `len`. `taken` and `len` are those of the
- * last engine_bytes or engine_collect; read them after no other call.
+ * numbers engine_pulse_in gives. It also holds what the last call came to in `answer`, `taken`, `place` and `len`. All but `answer` are those of
+ * the last engine_bytes or engine_collect; read them after no other call. Only engine_bytes comes to a place that is not 0.
  */
 #ifndef ENGINE_H
 #define ENGINE_H
@@ -19,6 +19,7 @@ typedef struct {
     peer_box box;
     uint8_t answer;
     size_t taken;
+    size_t place;
     size_t len;
 } engine;
 
@@ -52,6 +53,7 @@ static inline void engine_bytes(engine *e, engine_pulse *row, size_t records, ui
 {
     e->answer = peer_bytes(&e->box, row, records, c, piece, piece_len, reply, reply_len);
     e->taken = e->box.taken;
+    e->place = e->box.place;
     e->len = e->box.len;
 }
 
@@ -59,6 +61,7 @@ static inline void engine_collect(engine *e, uint8_t c, uint8_t *reply, size_t r
 {
     e->answer = peer_collect(&e->box, c, reply, reply_len);
     e->taken = e->box.taken;
+    e->place = e->box.place;
     e->len = e->box.len;
 }
 
@@ -125,6 +128,7 @@ typedef struct {
     uint8_t rooms[WELLACORN_ROOMS];
     uint8_t answer;
     size_t taken;
+    size_t place;
     size_t len;
 } engine;
 
@@ -157,6 +161,7 @@ static inline void engine_came_to(engine *e, wellacorn_done d)
 {
     e->answer = d.answer;
     e->taken = d.taken;
+    e->place = d.place;
     e->len = d.len;
 }
 

@@ -63,12 +63,19 @@ static void same_lent(const char *call)
     }
 }
 
-static void came_to(const char *call, wellacorn_done d, uint8_t answer, size_t taken, size_t len)
+static void came_to_at(const char *call, wellacorn_done d, uint8_t answer, size_t taken, size_t place, size_t len)
 {
     same(call, "answer", 0, d.answer, answer);
     same(call, "taken", 0, d.taken, taken);
+    same(call, "place", 0, d.place, place);
     same(call, "len", 0, d.len, len);
     same_lent(call);
+}
+
+/* The same of a call that gives no place: of every one that does not refuse a message for its length. */
+static void came_to(const char *call, wellacorn_done d, uint8_t answer, size_t taken, size_t len)
+{
+    came_to_at(call, d, answer, taken, 0, len);
 }
 
 /* ---- What a call finds: a test sets in `expected` what matters to its call, then says `begin`, then what the call does. */
@@ -113,12 +120,17 @@ static uint8_t *room_of(uint8_t c)
 }
 
 /* A whole message of which the box keeps the content and makes no reply. */
-static void send_for(const char *call, uint8_t c, const uint8_t *content, size_t n, uint8_t answer)
+static void send_at(const char *call, uint8_t c, const uint8_t *content, size_t n, uint8_t answer, size_t place)
 {
-    uint8_t frame[16] = {0x01, 0, (uint8_t)n, 0xFF, 0xFF};
+    uint8_t frame[5 + WELLACORN_CONTENT] = {0x01, (uint8_t)(n >> 8), (uint8_t)n, 0xFF, 0xFF};
     memcpy(frame + 5, content, n);
     memcpy(room_of(c), content, n);
-    came_to(call, wellacorn_box_bytes(&found.box, c, frame, 5 + n, reply, sizeof reply), answer, 5 + n, 0);
+    came_to_at(call, wellacorn_box_bytes(&found.box, c, frame, 5 + n, reply, sizeof reply), answer, 5 + n, place, 0);
+}
+
+static void send_for(const char *call, uint8_t c, const uint8_t *content, size_t n, uint8_t answer)
+{
+    send_at(call, c, content, n, answer, 0);
 }
 
 static void send(const char *call, uint8_t c, const uint8_t *content, size_t n)
@@ -333,7 +345,7 @@ static void try_pulse_begins(uint8_t k, uint8_t c, unsigned first)
     send("a pulse begins", c, (const uint8_t[]){10, 6, 0, k, 0x10, 0x20, 0x30, 0x40}, 8);
 }
 
-/* The 32nd is refused, whatever its place would be. */
+/* The 32nd is refused, whatever its place would be; for its length before that. */
 static void try_queue_full(unsigned first)
 {
     scribble();
@@ -341,6 +353,7 @@ static void try_queue_full(unsigned first)
     queue_up(0x5A, first, WELLACORN_PULSES);
     begin();
     send_for("the queue is full", 0, (const uint8_t[]){10, 6, 0, 1, 0, 0, 0, 1}, 8, WELLACORN_QUEUE_FULL);
+    send_at("the queue is full, cut", 0, (const uint8_t[]){10, 6, 0, 1, 0, 0, 0}, 7, WELLACORN_ENDS_EARLY, 7);
 }
 
 /* d ms for the clock and for the relays that are closed. */
@@ -506,6 +519,131 @@ static void try_done(uint8_t c)
     came_to("127 IDs", d, WELLACORN_SERVED, sizeof many, WELLACORN_LONGEST_REPLY);
 }
 
+/* ---- Places: of messages whose length is wrong, and 0 where another refusal came before */
+
+/* A content that is refused, its first bytes; those behind them, up to n, are 0. */
+typedef struct {
+    size_t n;
+    uint8_t content[24];
+    uint8_t answer;
+    size_t place;
+} refusal;
+
+static const refusal refusals[] = {
+    {1, {5}, WELLACORN_ENDS_EARLY, 1},
+    {2, {5}, WELLACORN_ENDS_EARLY, 2},
+    {4, {5, 0, 4}, WELLACORN_ENDS_EARLY, 4},
+    {6, {5, 0, 4}, WELLACORN_ENDS_EARLY, 6},
+    {8, {5, 0, 4}, WELLACORN_LEFT_OVER, 7},
+    {4, {5, 0, 3}, WELLACORN_OUT_OF_RANGE, 0},
+    {8, {5, 0, 6}, WELLACORN_OUT_OF_RANGE, 0},
+    {1, {7}, WELLACORN_ENDS_EARLY, 1},
+    {8, {7}, WELLACORN_ENDS_EARLY, 8},
+    {10, {7}, WELLACORN_LEFT_OVER, 9},
+    {1, {10}, WELLACORN_ENDS_EARLY, 1},
+    {3, {10, 1}, WELLACORN_ENDS_EARLY, 3},
+    {5, {10, 1, 0, 9}, WELLACORN_LEFT_OVER, 4},
+    {3, {10, 4}, WELLACORN_OUT_OF_RANGE, 0},
+    {5, {10, 11}, WELLACORN_OUT_OF_RANGE, 0},
+    {4, {10, 1, 0, 9}, WELLACORN_OUT_OF_RANGE, 0},
+    {3, {10, 10, 0xFF}, WELLACORN_ENDS_EARLY, 3},
+    {4, {10, 6, 0, 1}, WELLACORN_ENDS_EARLY, 4},
+    {7, {10, 6, 0, 9}, WELLACORN_ENDS_EARLY, 7},
+    {9, {10, 6, 0, 1, 0, 0, 0, 1}, WELLACORN_LEFT_OVER, 8},
+    {7, {10, 7, 1, 1, 0, 0, 1}, WELLACORN_ENDS_EARLY, 7},
+    {9, {10, 7, 1, 1}, WELLACORN_LEFT_OVER, 8},
+    {8, {10, 7, 1, 1}, WELLACORN_OUT_OF_RANGE, 0},
+    {1, {21}, WELLACORN_ENDS_EARLY, 1},
+    {2, {21, 1}, WELLACORN_ENDS_EARLY, 2},
+    {3, {21, 0, 1}, WELLACORN_LIST_CUT, 3},
+    {10, {21, 0, 1}, WELLACORN_LIST_CUT, 10},
+    {15, {21, 0, 2}, WELLACORN_LIST_CUT, 15},
+    {4, {21, 0, 0}, WELLACORN_LEFT_OVER, 3},
+    {14, {21, 0, 1}, WELLACORN_LEFT_OVER, 11},
+    {1, {23}, WELLACORN_ENDS_EARLY, 1},
+    {2, {23, 1}, WELLACORN_ENDS_EARLY, 2},
+    {3, {23, 0, 1}, WELLACORN_LIST_CUT, 3},
+    {10, {23, 0, 1}, WELLACORN_LIST_CUT, 10},
+    {12, {23, 0, 1}, WELLACORN_LIST_CUT, 12},
+    {13, {23, 0, 2}, WELLACORN_LIST_CUT, 13},
+    {14, {23, 0, 1, 0, 0, 0, 0, 0, 1, 1, 0xFF, 0, 2, 1}, WELLACORN_LIST_CUT, 14},
+    {17, {23, 0, 1, 0, 0, 0, 0, 0, 1, 1, 0xFF, 0, 2, 1, 1}, WELLACORN_LEFT_OVER, 15},
+    {4, {23, 0, 0}, WELLACORN_LEFT_OVER, 3},
+    {1, {26}, WELLACORN_ENDS_EARLY, 1},
+    {3, {26, 9}, WELLACORN_LEFT_OVER, 2},
+    {2, {26, 9}, WELLACORN_OUT_OF_RANGE, 0},
+    {0, {0}, WELLACORN_NOT_OFFERED, 0},
+    {9, {1}, WELLACORN_NOT_OFFERED, 0},
+};
+
+static void try_refusal(uint8_t c, const refusal *r)
+{
+    scribble();
+    listening(c);
+    begin();
+    send_at("a refusal", c, r->content, r->n, r->answer, r->place);
+}
+
+/* Whatever its length would be refused for, the rank and the checksum are judged before it. */
+static void try_refusal_before(uint8_t c, const refusal *r)
+{
+    bool offered = r->answer != WELLACORN_NOT_OFFERED;
+    scribble();
+    listening(c)->rank = 0;
+    begin();
+    send_for("a refusal, rank 0", c, r->content, r->n, offered ? WELLACORN_LOW_RANK : WELLACORN_NOT_OFFERED);
+    scribble();
+    listening(c)->strict = 1;
+    begin();
+    send_for("a refusal, strict", c, r->content, r->n, WELLACORN_BAD_CHECKSUM);
+}
+
+/* The place counts in the content, and not in the piece: the same message in two pieces, however it is cut. Only its last piece has a place. */
+static void try_refusal_cut(uint8_t c, const refusal *r, size_t cut)
+{
+    uint8_t frame[5 + sizeof r->content] = {0x01, 0, (uint8_t)r->n, 0xFF, 0xFF};
+    memcpy(frame + 5, r->content, r->n);
+    scribble();
+    listening(c);
+    begin();
+    memcpy(room_of(c), r->content, cut - 5);
+    expected.box.halves[c] = (wellacorn_half){.got = cut, .len = r->n, .sum = 0xFFFF};
+    came_to("a refusal, begun", wellacorn_box_bytes(&found.box, c, frame, cut, reply, sizeof reply), WELLACORN_WAITING, cut, 0);
+    memcpy(room_of(c), r->content, r->n);
+    expected.box.halves[c] = nothing_read;
+    came_to_at("a refusal, ended", wellacorn_box_bytes(&found.box, c, frame + cut, 5 + r->n - cut, reply, sizeof reply), r->answer,
+               5 + r->n - cut, r->place, 0);
+}
+
+static void try_refusals(uint8_t c)
+{
+    for (size_t i = 0; i < COUNT(refusals); i++) {
+        try_refusal(c, &refusals[i]);
+        try_refusal_before(c, &refusals[i]);
+        for (size_t cut = 5; cut < 5 + refusals[i].n; cut++) {
+            try_refusal_cut(c, &refusals[i], cut);
+        }
+    }
+}
+
+/* Places that no byte holds: a list of the longest content that is cut, and one that has bytes left over. */
+static void try_long_places(uint8_t c)
+{
+    uint8_t content[WELLACORN_CONTENT] = {21, 0, 128};
+    scribble();
+    listening(c);
+    begin();
+    send_at("128 IDs, cut", c, content, sizeof content, WELLACORN_LIST_CUT, 1024);
+    content[2] = 127;
+    send_at("127 IDs, left over", c, content, sizeof content, WELLACORN_LEFT_OVER, 1019);
+    content[0] = 23;
+    content[1] = content[2] = 0xFF;
+    send_at("65,535 entries, cut", c, content, sizeof content, WELLACORN_LIST_CUT, 1024);
+    content[0] = 5;
+    content[1] = content[2] = 0;
+    send_at("a long request", c, content, sizeof content, WELLACORN_LEFT_OVER, 7);
+}
+
 /* A call that is refused, and one that is given nothing, change nothing. */
 static void try_unchanged(void)
 {
@@ -570,6 +708,8 @@ int main(void)
         try_half(c);
         try_room(c);
         try_done(c);
+        try_refusals(c);
+        try_long_places(c);
     }
     for (unsigned first = 0; first < WELLACORN_PULSES; first++) {
         try_pulses(first);

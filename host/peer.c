@@ -307,20 +307,41 @@ static uint8_t *put_device(uint8_t *p, const peer_tables *tables, uint64_t id)
     return put8(p, alarm_at_or_above(relay->usage, relay->usage_setpoint));
 }
 
+/* ---- Wrong lengths. 02, M-105, 1 and 2: which it is, and where: the place of the first byte that is missing or too many. */
+
+/* A content of n bytes that should have another length. */
+static uint8_t wrong_length(peer_box *box, size_t n, size_t length)
+{
+    if (n < length) {
+        box->place = n;
+        return WELLACORN_ENDS_EARLY;
+    }
+    box->place = length;
+    return WELLACORN_LEFT_OVER;
+}
+
+/* A content of n bytes that ends before its list does. */
+static uint8_t list_cut(peer_box *box, size_t n)
+{
+    box->place = n;
+    return WELLACORN_LIST_CUT;
+}
+
 /* ---- Messages. Each is given its content of n bytes and writes a reply's content to *end on, which it moves behind it. */
 
 static uint8_t request(peer_box *box, peer_line *line, const uint8_t *content, size_t n, uint8_t **end)
 {
     if (n < 3) {
-        return WELLACORN_BAD_LENGTH;
+        return wrong_length(box, n, 3);
     }
     /* 01, Answer numbers, 2: a request that has come is judged before the length, and so is an action. */
     unsigned asked = get16(content + 1);
     if (asked > 5 || asked == 3) {
         return WELLACORN_OUT_OF_RANGE;
     }
+    /* 02, M-105, 1: what follows the request is an interval, be it cut. */
     if (n != 3 && n != 7) {
-        return WELLACORN_BAD_LENGTH;
+        return wrong_length(box, n, 7);
     }
     switch (asked) {
     case 0:
@@ -346,7 +367,7 @@ static uint8_t request(peer_box *box, peer_line *line, const uint8_t *content, s
 static uint8_t set_clock(peer_box *box, const uint8_t *content, size_t n)
 {
     if (n != 9) {
-        return WELLACORN_BAD_LENGTH;
+        return wrong_length(box, n, 9);
     }
     box->tables.clock = get64(content + 1);
     return WELLACORN_SERVED;
@@ -375,7 +396,7 @@ static uint8_t ask_pulse(peer_box *box, peer_pulse *row, const uint8_t *content,
     peer_queue *queue = &box->queue;
 
     if (n != 8) {
-        return WELLACORN_BAD_LENGTH;
+        return wrong_length(box, n, 8);
     }
     peer_pulse asked = {.mask = content[2], .states = content[3], .duration = get32(content + 4)};
     if (content[1] == PULSE) {
@@ -424,7 +445,7 @@ static bool act_on(peer_input *in, peer_relay *relay, unsigned action)
 static uint8_t command(peer_box *box, peer_pulse *row, const uint8_t *content, size_t n)
 {
     if (n < 2) {
-        return WELLACORN_BAD_LENGTH;
+        return wrong_length(box, n, 2);
     }
     unsigned action = content[1];
     if (action < CLOSE || action > BLOCK || action == 4) {
@@ -434,7 +455,7 @@ static uint8_t command(peer_box *box, peer_pulse *row, const uint8_t *content, s
         return ask_pulse(box, row, content, n);
     }
     if (n != 4) {
-        return WELLACORN_BAD_LENGTH;
+        return wrong_length(box, n, 4);
     }
     bool changed = false;
     if (action == BLOCK) {
@@ -452,14 +473,20 @@ static uint8_t command(peer_box *box, peer_pulse *row, const uint8_t *content, s
     return WELLACORN_SERVED;
 }
 
-static uint8_t read_devices(const peer_box *box, const uint8_t *content, size_t n, uint8_t **end)
+enum { LIST = 3 };      /* the place of a list: behind the type and the count */
+
+static uint8_t read_devices(peer_box *box, const uint8_t *content, size_t n, uint8_t **end)
 {
-    if (n < 3 || n != 3 + 8 * (size_t)get16(content + 1)) {
-        return WELLACORN_BAD_LENGTH;
+    if (n < LIST) {
+        return wrong_length(box, n, LIST);
+    }
+    size_t length = LIST + 8 * (size_t)get16(content + 1);
+    if (n != length) {
+        return n < length ? list_cut(box, n) : wrong_length(box, n, length);
     }
     uint8_t *p = put8(*end, DEVICES_READ);
     p = put16(p, get16(content + 1));
-    for (const uint8_t *id = content + 3; id < content + n; id += 8) {
+    for (const uint8_t *id = content + LIST; id < content + n; id += 8) {
         p = put_device(p, &box->tables, get64(id));
     }
     *end = p;
@@ -515,36 +542,37 @@ static bool write_relay(peer_relay *relay, const uint8_t *block, size_t length, 
 
 enum { ENTRY = 10 };    /* an entry before its block: ID and block length */
 
-/* 01, Messages, 23, 2: judged before anything is written. */
-static bool entries_fit(const uint8_t *content, size_t n)
+/* 01, Messages, 23, 2: judged before anything is written. Answers WELLACORN_SERVED where the entries fit. */
+static uint8_t judge_entries(peer_box *box, const uint8_t *content, size_t n)
 {
-    if (n < 3) {
-        return false;
+    if (n < LIST) {
+        return wrong_length(box, n, LIST);
     }
-    size_t at = 3;
+    size_t at = LIST;
     for (unsigned left = get16(content + 1); left > 0; left--) {
         if (n - at < ENTRY) {
-            return false;
+            return list_cut(box, n);
         }
         size_t length = get16(content + at + 8);
         at += ENTRY;
         if (n - at < length) {
-            return false;
+            return list_cut(box, n);
         }
         at += length;
     }
-    return at == n;
+    return at == n ? WELLACORN_SERVED : wrong_length(box, n, at);
 }
 
 static uint8_t write_devices(peer_box *box, const uint8_t *content, size_t n, uint8_t **end)
 {
-    if (!entries_fit(content, n)) {
-        return WELLACORN_BAD_LENGTH;
+    uint8_t answer = judge_entries(box, content, n);
+    if (answer != WELLACORN_SERVED) {
+        return answer;
     }
     /* 01, Events, 8: a change in one entry is not taken back by the next. */
     bool changed = false;
     uint16_t written = 0;
-    for (size_t at = 3; at < n;) {
+    for (size_t at = LIST; at < n;) {
         int device = device_of(get64(content + at));
         size_t length = get16(content + at + 8);
         const uint8_t *block = content + at + ENTRY;
@@ -565,12 +593,12 @@ static uint8_t write_devices(peer_box *box, const uint8_t *content, size_t n, ui
     return WELLACORN_SERVED;
 }
 
-static uint8_t enumerate_devices(const uint8_t *content, size_t n, uint8_t **end)
+static uint8_t enumerate_devices(peer_box *box, const uint8_t *content, size_t n, uint8_t **end)
 {
     enum { INTERNAL = 1, ALL = 3 };
 
     if (n != 2) {
-        return WELLACORN_BAD_LENGTH;
+        return wrong_length(box, n, 2);
     }
     unsigned flags = content[1];
     if (flags < INTERNAL || flags > ALL) {
@@ -621,7 +649,7 @@ static uint8_t serve(peer_box *box, peer_line *line, peer_pulse *row, const uint
     case WRITE_DEVICES:
         return write_devices(box, content, n, end);
     default:
-        return enumerate_devices(content, n, end);
+        return enumerate_devices(box, content, n, end);
     }
 }
 
@@ -764,6 +792,7 @@ uint8_t peer_collect(peer_box *box, uint8_t c, uint8_t *reply, size_t reply_len)
 {
     box->taken = 0;
     box->len = 0;
+    box->place = 0;
     if (!is_open(box, c)) {
         return WELLACORN_NO_CONNECTION;
     }
@@ -805,6 +834,7 @@ uint8_t peer_bytes(peer_box *box, peer_pulse *row, size_t records, uint8_t c, co
 {
     box->taken = 0;
     box->len = 0;
+    box->place = 0;
     if (!is_open(box, c)) {
         return WELLACORN_NO_CONNECTION;
     }

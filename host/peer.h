@@ -73,6 +73,7 @@ typedef struct {
     peer_connection connections[WELLACORN_CONNECTIONS];
     size_t taken;           /* of the last peer_bytes or peer_collect: bytes taken of the piece */
     size_t len;             /* and the reply's length */
+    size_t place;           /* and where a content has a wrong length, else 0 */
 } peer_box;
 
 /* Each answers as the library's function of that name. A row of `records` pulses is lent as there, under WELLACORN_PULSES it is a WELLACORN_SHORT_BUFFER. */
@@ -82,7 +83,7 @@ uint8_t peer_pass(peer_box *box, const peer_pulse *row, size_t records, uint32_t
 uint8_t peer_connect(peer_box *box, uint8_t c, uint8_t rank, uint8_t strict);
 uint8_t peer_close(peer_box *box, uint8_t c);
 
-/* They always set `taken` and `len` of the box. By pointers of their own these would no longer fit registers beside the row. */
+/* They always set `taken`, `len` and `place` of the box. By pointers of their own these would no longer fit registers beside the row. */
 uint8_t peer_bytes(peer_box *box, peer_pulse *row, size_t records, uint8_t c, const uint8_t *piece, size_t piece_len, uint8_t *reply,
                    size_t reply_len);
 uint8_t peer_collect(peer_box *box, uint8_t c, uint8_t *reply, size_t reply_len);

@@ -15,15 +15,16 @@ enum { HEADER = 5 };
 static engine box;
 static engine_pulse pulses[WELLACORN_PULSES];
 
-static wellacorn_done came_to(size_t taken, size_t len)
-{
-    return (wellacorn_done){.answer = box.answer, .taken = taken, .len = len};
-}
-
 static wellacorn_done told(wellacorn_board *board)
 {
     *board = engine_board(&box);
-    return came_to(0, 0);
+    return (wellacorn_done){.answer = box.answer};
+}
+
+/* What bytes or a collection came to. */
+static wellacorn_done came_to(void)
+{
+    return (wellacorn_done){.answer = box.answer, .taken = box.taken, .place = box.place, .len = box.len};
 }
 
 static void show(wellacorn_board *board)
@@ -101,12 +102,12 @@ wellacorn_done wellacorn_bytes(wellacorn_board *board, wellacorn_half halves[WEL
     }
     show_accepted(row, standing);
     show(board);
-    return came_to(box.taken, box.len);
+    return came_to();
 }
 
 wellacorn_done wellacorn_collect(wellacorn_board *board, uint8_t c, uint8_t *reply, size_t reply_len)
 {
     engine_collect(&box, c, reply, reply_len);
     show(board);
-    return came_to(box.taken, box.len);
+    return came_to();
 }

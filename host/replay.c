@@ -376,6 +376,8 @@ static bool bytes(const word *words, size_t n)
     print_number(box.answer);
     print_char(' ');
     print_number(box.taken);
+    print_char(' ');
+    print_number(box.place);
     print_reply(cap, row_spoilt());
     return true;
 }

@@ -179,14 +179,46 @@ static void add_checksum(words *w, bool strict)
     }
 }
 
-static void add_refused(words *w, const uint8_t *content, size_t n, uint8_t answer, bool strict)
+/* How long a message of a type that the box offers has to be, its type included. */
+static const char *layout_words(uint8_t type)
+{
+    switch (type) {
+    case 5:
+        return "3 bytes, or 7 with an interval";
+    case 7:
+        return "9 bytes";
+    case 10:
+        return "4 bytes, or 8 for a pulse";
+    case 21:
+        return "3 bytes, and 8 for each ID that it counts";
+    case 23:
+        return "3 bytes, and 10 and the block for each entry that it counts";
+    default:
+        return "2 bytes";
+    }
+}
+
+/* Whether bytes are missing or too many, and where. */
+static void add_length(words *w, const uint8_t *content, const wellacorn_done *done)
+{
+    if (done->answer == WELLACORN_ENDS_EARLY) {
+        add(w, "it ends too early at byte %zu", done->place);
+    } else if (done->answer == WELLACORN_LEFT_OVER) {
+        add(w, "bytes are left over from byte %zu on", done->place);
+    } else {
+        add(w, "its list of %u is cut at byte %zu", two_at(content + 1), done->place);
+    }
+    add(w, " (its type is byte 0). It should have %s", layout_words(content[0]));
+}
+
+static void add_refused(words *w, const uint8_t *content, size_t n, const wellacorn_done *done, bool strict)
 {
     if (n == 0) {
-        add(w, "sent an empty message; refused (%u): ", answer);
+        add(w, "sent an empty message; refused (%u): ", done->answer);
     } else {
-        add(w, "sent a message of type %u; refused (%u): ", content[0], answer);
+        add(w, "sent a message of type %u; refused (%u): ", content[0], done->answer);
     }
-    switch (answer) {
+    switch (done->answer) {
     case WELLACORN_BAD_CHECKSUM:
         add_checksum(w, strict);
         break;
@@ -196,8 +228,10 @@ static void add_refused(words *w, const uint8_t *content, size_t n, uint8_t answ
     case WELLACORN_LOW_RANK:
         add(w, "its rank is too low. %s", content[0] == 7 ? "An administrator has to log in" : "Somebody has to log in first");
         break;
-    case WELLACORN_BAD_LENGTH:
-        add(w, "its length is not that of the layout");
+    case WELLACORN_ENDS_EARLY:
+    case WELLACORN_LEFT_OVER:
+    case WELLACORN_LIST_CUT:
+        add_length(w, content, done);
         break;
     case WELLACORN_QUEUE_FULL:
         add(w, "%d pulses stand in the queue. Ask again when one has ended", WELLACORN_PULSES);
@@ -220,7 +254,7 @@ static void told_message(const box *b, uint8_t c, const came *it)
     } else if (it->done.answer == WELLACORN_TOO_LONG) {
         add(&w, "sent a message of %zu bytes, swallowed (%d): the longest is 1,024", it->read - 5, WELLACORN_TOO_LONG);
     } else {
-        add_refused(&w, content, n, it->done.answer, b->lent.board.lines[c].strict != 0);
+        add_refused(&w, content, n, &it->done, b->lent.board.lines[c].strict != 0);
     }
     say("connection %u %s", c, w.text);
 }

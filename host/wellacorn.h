@@ -44,9 +44,11 @@ enum {
 
 /* The answer numbers. From NO_CONNECTION on they are refusals, which have no reply. A call is refused by the first that applies of
  * NO_CONNECTION, ALREADY_OPEN, BAD_RANK and SHORT_BUFFER, and then takes no bytes and changes nothing. A whole message is refused by the first
- * of TOO_LONG to OUT_OF_RANGE, in their order, and QUEUE_FULL: its bytes are taken through its end, nothing of it stays half read, and nothing
- * else changes. Only in the message types 5 and 10 the request or action, where it has come, is judged (OUT_OF_RANGE) before the length
- * (BAD_LENGTH). */
+ * that applies of TOO_LONG, BAD_CHECKSUM, NOT_OFFERED, LOW_RANK, then for its length, by the one of ENDS_EARLY, LEFT_OVER and LIST_CUT that says
+ * what is wrong with it, then OUT_OF_RANGE and QUEUE_FULL: its bytes are taken through its end, nothing of it stays half read, and nothing else
+ * changes. Only in the message types 5 and 10 the request or action, where it has come, is judged (OUT_OF_RANGE) before the length.
+ *
+ * 10 is not given. It stood for every wrong length, before it was split into 20 to 22, with which goes a place (wellacorn_done). */
 enum {
     WELLACORN_WAITING = 0,          /* the piece has ended and no message with it; of a collection: Monitor is not due */
     WELLACORN_SERVED = 1,           /* done, with a reply or without */
@@ -58,11 +60,13 @@ enum {
     WELLACORN_BAD_CHECKSUM = 7,     /* not the content's checksum; 0xFFFF is let pass all the same, but not on a strict connection */
     WELLACORN_NOT_OFFERED = 8,      /* no content, or a type that the box does not serve */
     WELLACORN_LOW_RANK = 9,         /* the type needs a higher rank */
-    WELLACORN_BAD_LENGTH = 10,      /* too few or too many bytes for the type's layout */
     WELLACORN_OUT_OF_RANGE = 11,    /* a number in a message or of a level that stands for nothing, or a pulse of 0 ms */
     WELLACORN_ALREADY_OPEN = 12,    /* an opening of a connection that is not shut */
     WELLACORN_BAD_RANK = 13,        /* an opening at a rank that there is not */
-    WELLACORN_QUEUE_FULL = 14       /* a pulse is asked for while WELLACORN_PULSES stand */
+    WELLACORN_QUEUE_FULL = 14,      /* a pulse is asked for while WELLACORN_PULSES stand */
+    WELLACORN_ENDS_EARLY = 20,      /* the content ends too early for the type's layout, anywhere but within a list whose count is whole */
+    WELLACORN_LEFT_OVER = 21,       /* bytes are left over behind the end of the type's layout */
+    WELLACORN_LIST_CUT = 22         /* the content ends within a list whose count is whole: among the IDs of type 21 or the entries of type 23 */
 };
 
 /* ---- What the box holds.
@@ -159,6 +163,8 @@ typedef struct {
 typedef struct {
     size_t taken;               /* bytes taken of the piece; an event and a collection take none */
     size_t len;                 /* the reply's length, its five header bytes included; 0 for no reply */
+    size_t place;               /* with ENDS_EARLY and LIST_CUT the content's length, where the first missing byte would stand; with LEFT_OVER where
+                                   the first surplus byte stands; the content's type byte is 0; with every other answer 0 */
     uint8_t answer;             /* the answer number */
 } wellacorn_done;
 
@@ -187,8 +193,9 @@ wellacorn_done wellacorn_connect(wellacorn_board *board, wellacorn_half halves[W
 wellacorn_done wellacorn_close(wellacorn_board *board, wellacorn_half halves[WELLACORN_CONNECTIONS], uint8_t c);
 
 /* Bytes of connection c. Up to the end of a message they are taken, or all of them where none ends: `taken` says how many. A message that
- * ends is served or refused, and what follows it in the piece is to be offered again. A reply is one whole frame of `len` bytes at the start
- * of the reply buffer; the bytes behind it stay, and without a reply all stay.
+ * ends is served or refused, and what follows it in the piece is to be offered again. Of a message that is refused for its length `place` says
+ * where: in its content, however the pieces were cut. A reply is one whole frame of `len` bytes at the start of the reply buffer; the bytes
+ * behind it stay, and without a reply all stay.
  *
  *   rooms      1,024 content bytes for each connection, at 1,024 x c. A call writes to those of its own connection alone.
  *   row        `records` records, at least WELLACORN_PULSES or the answer is SHORT_BUFFER. A pulse that is accepted is written to one of the
@@ -321,10 +328,11 @@ WELLACORN_SIZE(wellacorn_settings, 256);
 WELLACORN_PLACE(wellacorn_settings, inputs, 0);
 WELLACORN_PLACE(wellacorn_settings, relays, 192);
 
-WELLACORN_SIZE(wellacorn_done, 24);
+WELLACORN_SIZE(wellacorn_done, 32);
 WELLACORN_PLACE(wellacorn_done, taken, 0);
 WELLACORN_PLACE(wellacorn_done, len, 8);
-WELLACORN_PLACE(wellacorn_done, answer, 16);
+WELLACORN_PLACE(wellacorn_done, place, 16);
+WELLACORN_PLACE(wellacorn_done, answer, 24);
 
 #undef WELLACORN_ROW
 #undef WELLACORN_SIZE

@@ -12,6 +12,7 @@ static inline void offer(workload_tally *t, const uint8_t *piece, size_t n)
     engine_bytes(&box, row, WELLACORN_PULSES, 0, piece, n, reply, sizeof reply);
     t->answers += box.answer;
     t->taken += box.taken;
+    t->places += box.place;
     t->len += box.len;
 }
 
@@ -89,6 +90,7 @@ static workload_tally collect(const uint8_t *bytes, size_t n, size_t step, size_
             let_pass(&t, 1);
             engine_collect(&box, 0, reply, sizeof reply);
             t.answers += box.answer;
+            t.places += box.place;
             t.len += box.len;
         }
     }

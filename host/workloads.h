@@ -8,6 +8,7 @@
 typedef struct {
     uint64_t answers;
     uint64_t taken;
+    uint64_t places;
     uint64_t len;
 } workload_tally;
 

@@ -71,8 +71,24 @@ def text(value):
     return bytes([len(data)]) + data
 
 
-# 001, Custom Command (type 255): the box's host answers how many pulses stand in the queue.  No message of the box tells that.
+# 001, Custom Command (type 255): what the box's host itself answers, by type 254, because no message of the box tells it: how many pulses stand
+# in the queue, and which message was refused last, whoever sent it.  An answer does not name its question; the payload's length tells them apart.
 HOW_MANY = b"\xFF" + text("pulses") + b"\x00\x00\x00"
+LAST_REFUSED = b"\xFF" + text("refused") + b"\x00\x00\x00"
+ANSWERS_HOW_MANY, ANSWERS_LAST_REFUSED = b"\x00\x00\x01", b"\x00\x00\x0A"     # status and payload size
+
+# Why the box refuses a message, by the answer number: the one place where the panel has words for them.  {} stands for the place.
+REFUSALS = {
+    6: "it is too long",
+    7: "its checksum differs",
+    8: "this box does not offer it",
+    9: "its sender has too low a rank",
+    11: "a number in it is out of range",
+    14: "the queue of pulses is full",
+    20: "it ends too early at byte {}",
+    21: "bytes are left over from byte {} on",
+    22: "its list is cut at byte {}",
+}
 
 
 class Fields:
@@ -90,6 +106,27 @@ class Fields:
 
     def number(self, size=1):
         return int.from_bytes(self.bytes(size), "big")
+
+
+def ago(seconds):
+    """How long ago, in the largest unit of which there is a whole one."""
+    for size, unit in ((86400, "d"), (3600, "h"), (60, "min")):
+        if seconds >= size:
+            return f"{seconds // size} {unit} ago"
+    return f"{seconds} s ago"
+
+
+def refusal_words(payload):
+    """The host's answer on the last refused message, in words; no words where there is none.
+
+    Kind 2 has a type; of kind 1 the type is not known, because the message was empty or too long to be kept.
+    """
+    kind, connection, type_, answer, place, seconds = (payload.number(size) for size in (1, 1, 1, 1, 2, 4))
+    if kind == 0:
+        return ""
+    message = f"message of type {type_}" if kind == 2 else "message" if answer == 6 else "empty message"
+    why = REFUSALS.get(answer, "for a reason that this panel does not know").format(place)
+    return f"Last refused: connection {connection}, {message}, {why} ({answer}), {ago(seconds)}"
 
 
 # The count alarms of the two messages that have them (001): the Monitor message's are 1 above the setpoint and light the lamp, the read
@@ -141,7 +178,7 @@ class Box:
         self.changed = threading.Condition()
         self.version = 0                        # grows with each change of what follows
         self.seen = {"answers": False, "since": time.time(), "check": "The panel is connecting.", "box": f"{address[0]}:{address[1]}",
-                     "at": None, "name": "", "clock": 0, "standing": None,
+                     "at": None, "name": "", "clock": 0, "standing": None, "refused": "",
                      "inputs": [dict.fromkeys(("on", "alarm", *MONITOR_ALARMS, *BLOCK_ALARMS, "usage_alarm"), False) | {"count": 0}
                                 for _ in CHANNELS],
                      "relays": [dict(closed=False, usage_alarm=False) for _ in CHANNELS]}
@@ -150,6 +187,7 @@ class Box:
         self.asked = self.answered = 0          # rounds
         self.counts = []                        # how many pulses stood, as told in the round that is being answered
         self.told = {}                          # and in the last rounds that were answered whole
+        self.refused = ""                       # the last refused message, as told in the round that is being answered
 
     # -- what is seen ------------------------------------------------------------------------------
 
@@ -173,7 +211,7 @@ class Box:
         elif kind == 22:
             self.take_devices(fields)
         elif kind == 254:
-            self.take_standing(fields)
+            self.take_custom(fields)
         elif kind == 6:
             self.take_clock(fields)
         elif kind == 3:
@@ -198,12 +236,15 @@ class Box:
                 relays[at] = {"closed": block.number() == 1, "usage": block.number(8), "usage_alarm": block.number() == 1}
         self.change(inputs=inputs, relays=relays)
 
-    def take_standing(self, fields):
-        """Status 0 and one byte.  Another host than Wellacorn's may answer otherwise: it tells nothing then."""
-        if fields.content[1:4] == b"\x00\x00\x01":
-            standing = Fields(fields.content[4:]).number()
+    def take_custom(self, fields):
+        """What the host itself answers.  Another host than Wellacorn's may answer otherwise: it tells nothing then."""
+        answers, payload = fields.content[1:4], Fields(fields.content[4:])
+        if answers == ANSWERS_HOW_MANY:
+            standing = payload.number()
             self.counts.append(standing)
             self.change(standing=standing)
+        elif answers == ANSWERS_LAST_REFUSED:
+            self.refused = refusal_words(payload)
 
     def take_clock(self, fields):
         """The last answer of a round: the box answers."""
@@ -211,7 +252,8 @@ class Box:
         self.told[round_] = counts
         self.told.pop(round_ - ROUNDS_KEPT, None)
         self.answered = round_
-        values = {"clock": fields.number(8), "at": time.time(), "check": ""}
+        values = {"clock": fields.number(8), "at": time.time(), "check": "", "refused": self.refused}
+        self.refused = ""                       # a host that is asked and does not tell shows none
         if not self.seen["answers"]:
             values.update(answers=True, since=time.time())
         self.change(**values)
@@ -222,7 +264,7 @@ class Box:
         """Sends messages, and a round behind them; gives the number of the round, which is answered when all before it is done."""
         ids = INPUT_IDS + RELAY_IDS
         devices = b"\x15" + len(ids).to_bytes(2, "big") + b"".join(id.to_bytes(8, "big") for id in ids)
-        messages = [*contents, HOW_MANY, devices, b"\x05\x00\x01", b"\x05\x00\x00"]
+        messages = [*contents, HOW_MANY, LAST_REFUSED, devices, b"\x05\x00\x01", b"\x05\x00\x00"]
         with self.sending:
             if self.socket is None:
                 raise Lost("There is no connection to it.")
@@ -284,7 +326,7 @@ class Box:
         with self.sending:
             self.socket = connection
             self.asked = self.answered = 0
-            self.counts, self.told = [], {}
+            self.counts, self.told, self.refused = [], {}, ""
         self.send()
         heard = time.monotonic()
         next_round = heard + ROUND

@@ -14,10 +14,13 @@ TOO_LONG = 6            # line 6: a content of more than 1,024 bytes
 BAD_CHECKSUM = 7        # line 7: neither the content's checksum nor 0xFFFF
 NOT_OFFERED = 8         # line 8: no content, or a type that the box does not serve
 LOW_RANK = 9            # line 9: the type needs a higher rank
-BAD_LENGTH = 10         # line 10: too few or too many bytes for the type's layout
+# line 10 is given no more: 02, M-105, 1 has 20, 21 and 22 instead
 OUT_OF_RANGE = 11       # line 11: a number in a message or a level event that stands for nothing; 02, M-100, 7: a pulse of 0 ms
 ALREADY_OPEN = 12       # line 12: an opening of a connection that is not shut
 BAD_RANK = 13           # line 13: an opening at a rank that there is not
 QUEUE_FULL = 14         # 02, M-100, 7: a pulse, while 31 stand
+ENDS_EARLY = 20         # 02, M-105, 1: too few bytes for the type's layout, and what is cut is no list whose count is whole
+LEFT_OVER = 21          # 02, M-105, 1: too many bytes for the type's layout
+LIST_CUT = 22           # 02, M-105, 1: too few bytes for the IDs or entries that a whole count says there are
 
 BY_NAME = {name: number for name, number in list(globals().items()) if name.isupper()}

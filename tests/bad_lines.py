@@ -16,11 +16,11 @@ PAGE = "docs/REPLAY.md"
 ROWS = [
     ("open 0 2", "1"),
     ("pass 1 0", "4"), ("pass 1 30", "4"), ("pass 0 30", "4"), ("pass 1 31", "1"), ("pass 1 32", "1"), ("pass 1 64", "1"), ("pass 1", "1"),
-    ("bytes 0 4096 06 0", "4 0 0 -"), ("bytes 0 4096 06 30", "4 0 0 -"), ("bytes 0 4096 - 30", "4 0 0 -"), ("bytes 1 4096 06 30", "3 0 0 -"),
-    ("bytes 0 4095 06 31", "4 0 0 -"), ("bytes 0 4096 06 31", "2 1 0 -"), ("bytes 0 4096 06 64", "2 1 0 -"), ("bytes 0 4096 - 64", "0 0 0 -"),
-    ("bytes 0 4096 010008FFFF0A06000100000003 30", "4 0 0 -"),
-    ("bytes 0 4096 010008FFFF0A06000100000003 64", "1 13 0 -"),
-    ("bytes 0 4096 010008FFFF0A0703FEFFFFFFFF 31", "1 13 0 -"),
+    ("bytes 0 4096 06 0", "4 0 0 0 -"), ("bytes 0 4096 06 30", "4 0 0 0 -"), ("bytes 0 4096 - 30", "4 0 0 0 -"), ("bytes 1 4096 06 30", "3 0 0 0 -"),
+    ("bytes 0 4095 06 31", "4 0 0 0 -"), ("bytes 0 4096 06 31", "2 1 0 0 -"), ("bytes 0 4096 06 64", "2 1 0 0 -"), ("bytes 0 4096 - 64", "0 0 0 0 -"),
+    ("bytes 0 4096 010008FFFF0A06000100000003 30", "4 0 0 0 -"),
+    ("bytes 0 4096 010008FFFF0A06000100000003 64", "1 13 0 0 -"),
+    ("bytes 0 4096 010008FFFF0A0703FEFFFFFFFF 31", "1 13 0 0 -"),
     ("state", "C 4 I" + " 0,0,0" * 8 + " R 1,0" + " 0,0" * 7 + " N 1,2,1,1,0,0" + " 0,0,0,0,0,0" * 3 + " P 2 1,1,3 3,2,4294967295 was 0"),
     ("pass 3 30", "4"),
     ("pass 3 32", "1"),
@@ -36,16 +36,37 @@ ROWS = [
 # message with 0xFFFF that follows masks no relay. A refused opening, of an open connection, at a bad rank or of no connection, changes nothing.
 UNCHECKED = "4096 010004FFFF0A0A0000"
 STRICT = [
-    ("open 0 2", "1"), (f"bytes 0 {UNCHECKED}", "1 9 0 -"), ("open 0 2 1", "12"), (f"bytes 0 {UNCHECKED}", "1 9 0 -"),
-    ("open 1 3 1", "13"), ("open 1 2 0", "1"), (f"bytes 1 {UNCHECKED}", "1 9 0 -"), ("open 4 2 1", "3"), ("open 255 255 255", "3"),
-    ("open 2 2 00000000000000000000", "1"), (f"bytes 2 {UNCHECKED}", "1 9 0 -"),
-    ("open 3 2 00000000000000000001", "1"), (f"bytes 3 {UNCHECKED}", "7 9 0 -"), ("open 3 2 0", "12"), (f"bytes 3 {UNCHECKED}", "7 9 0 -"),
+    ("open 0 2", "1"), (f"bytes 0 {UNCHECKED}", "1 9 0 0 -"), ("open 0 2 1", "12"), (f"bytes 0 {UNCHECKED}", "1 9 0 0 -"),
+    ("open 1 3 1", "13"), ("open 1 2 0", "1"), (f"bytes 1 {UNCHECKED}", "1 9 0 0 -"), ("open 4 2 1", "3"), ("open 255 255 255", "3"),
+    ("open 2 2 00000000000000000000", "1"), (f"bytes 2 {UNCHECKED}", "1 9 0 0 -"),
+    ("open 3 2 00000000000000000001", "1"), (f"bytes 3 {UNCHECKED}", "7 9 0 0 -"), ("open 3 2 0", "12"), (f"bytes 3 {UNCHECKED}", "7 9 0 0 -"),
     ("state", "C 0 I" + " 0,0,0" * 8 + " R" + " 0,0" * 8 + " N" + " 1,2,1,1,0,0" * 3 + " 1,2,1,1,0,1 P 0"),
 ] + [pair for word in ("2", "3", "127", "128", "254", "255", "0255") for pair in (
-    ("close 0", "1"), (f"open 0 0 {word}", "1"), (f"bytes 0 {UNCHECKED}", "7 9 0 -"))] + [
+    ("close 0", "1"), (f"open 0 0 {word}", "1"), (f"bytes 0 {UNCHECKED}", "7 9 0 0 -"))] + [
     ("state", "C 0 I" + " 0,0,0" * 8 + " R" + " 0,0" * 8 + " N 1,0,1,0,0,1" + " 1,2,1,1,0,0" * 2 + " 1,2,1,1,0,1 P 0"),
     ("close 3", "1"), ("power", "1"),
     ("state", "C 0 I" + " 0,0,0" * 8 + " R" + " 0,0" * 8 + " N" + " 0,0,0,0,0,0" * 4 + " P 0"),
+]
+
+# Contents of every wrong length with the place that is told of them, and behind each something else, with which none is told. On connection 1
+# nobody is logged in, and connection 2 is shut.
+PLACES = [
+    ("open 0 2", "1"), ("open 1 0", "1"),
+    ("bytes 0 4096 010003FFFF0A0300", "20 8 3 0 -"), ("bytes 0 4096 06", "2 1 0 0 -"),
+    ("bytes 0 4096 010006FFFF050004000000", "20 11 6 0 -"), ("bytes 0 4096 -", "0 0 0 0 -"),
+    ("bytes 0 4096 010002FFFF1500", "20 7 2 0 -"), ("bytes 0 4096 00", "5 1 0 0 -"),
+    ("bytes 0 4096 010001FFFF1A", "20 6 1 0 -"), ("bytes 0 4096 010002FFFF1A00", "11 7 0 0 -"),
+    ("bytes 0 4096 010008FFFF0500040000000000", "21 13 7 0 -"), ("bytes 0 4095 06", "4 0 0 0 -"),
+    ("bytes 0 4096 010009FFFF0A0600010000000100", "21 14 8 0 -"), ("bytes 0 4096 06 30", "4 0 0 0 -"),
+    ("bytes 0 4096 01000CFFFF15000100000000000001FF00", "21 17 11 0 -"), ("bytes 2 4096 06", "3 0 0 0 -"),
+    ("bytes 0 4096 010003FFFF1A0000", "21 8 2 0 -"), ("bytes 1 4096 010003FFFF1A0000", "9 8 0 0 -"),
+    ("bytes 0 4096 010003FFFF150001", "22 8 3 0 -"), ("bytes 0 4096 0100030000150001", "7 8 0 0 -"),
+    ("bytes 0 4096 01000DFFFF17000100000000000001FF0001", "22 18 13 0 -"), ("bytes 0 4096 010000FFFF", "8 5 0 0 -"),
+    ("bytes 0 4096 01000CFFFF17000200000000000001FF00", "22 17 12 0 -"), ("bytes 0 4096 010401FFFF" + "00" * 1025, "6 1030 0 0 -"),
+    ("bytes 0 4096 010400FFFF150080" + "00" * 1021, "22 1029 1024 0 -"), ("bytes 0 4096 010004FFFF0A0A0000", "1 9 0 0 -"),
+    ("bytes 0 4096 010400FFFF15007F" + "00" * 1021, "21 1029 1019 0 -"), ("bytes 0 4096 010003FFFF1500", "0 7 0 0 -"),
+    ("bytes 0 4096 0206", "22 1 3 0 -"), ("bytes 0 4096 06", "2 1 0 0 -"), ("collect 0 4095", "4 0 -"), ("collect 1 4096", "0 0 -"),
+    ("state", "C 0 I" + " 0,0,0" * 8 + " R" + " 0,0" * 8 + " N 1,2,1,1,0,0 1,0,1,0,0,0" + " 0,0,0,0,0,0" * 2 + " P 0"),
 ]
 
 # "any other line": `?`
@@ -101,16 +122,17 @@ def main():
              b"\n"]
     text = b"".join(noise.choice(words) if noise.random() < 0.9 else bytes([noise.randrange(256)]) for _ in range(60000)) + b"\n"
     pages = examples()
-    if [len(block) for block in pages] != [7, 13, 12]:
+    if [len(block) for block in pages] != [7, 13, 12, 10]:
         sys.exit(f"bad_lines: {PAGE} has other examples than were counted: {[len(block) for block in pages]}")
     # The longest piece there is: 100,000 stray bytes, of which the first is taken; and the same unread, of a shut connection.
-    longest = [("open 0 0", "1"), ("bytes 0 4096 " + "00" * 100000, "5 1 0 -"), ("bytes 1 4096 " + "00" * 100000, "3 0 0 -"),
-               ("bytes 0 4096 " + "00" * 100000 + " 64", "5 1 0 -"), ("bytes 0 4096 " + "00" * 100000 + " 30", "4 0 0 -")]
+    longest = [("open 0 0", "1"), ("bytes 0 4096 " + "00" * 100000, "5 1 0 0 -"), ("bytes 1 4096 " + "00" * 100000, "3 0 0 0 -"),
+               ("bytes 0 4096 " + "00" * 100000 + " 64", "5 1 0 0 -"), ("bytes 0 4096 " + "00" * 100000 + " 30", "4 0 0 0 -")]
     for tool in TOOLS:
         for block in pages:
             expect(tool, "an example of the page", block)
         expect(tool, "rows", ROWS)
         expect(tool, "openings", STRICT)
+        expect(tool, "places", PLACES)
         expect(tool, "other lines", [(line, "?") for line in OTHER])
         expect(tool, "the longest piece", longest)
         lines = play(tool, text).count(b"\n")
@@ -118,8 +140,8 @@ def main():
             sys.exit(f"bad_lines: {tool}: {lines} lines for {text.count(10)} of noise")
         if play(tool, b"open 0 2") not in (b"1\n",):
             sys.exit(f"bad_lines: {tool}: a last line without its end has no answer")
-    print(f"bad_lines: {sum(map(len, pages))} lines of the page, {len(ROWS)} with rows, {len(STRICT)} with openings, {len(OTHER)} other lines, "
-          f"{text.count(10)} lines of noise, each answered by {', '.join(TOOLS)}")
+    print(f"bad_lines: {sum(map(len, pages))} lines of the page, {len(ROWS)} with rows, {len(STRICT)} with openings, {len(PLACES)} with places, "
+          f"{len(OTHER)} other lines, {text.count(10)} lines of noise, each answered by {', '.join(TOOLS)}")
 
 
 main()

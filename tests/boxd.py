@@ -12,7 +12,7 @@ import tempfile
 import threading
 import time
 
-from answers import NOT_OFFERED, OUT_OF_RANGE, SERVED
+from answers import KEEP_ALIVE, NOT_OFFERED, OUT_OF_RANGE, SERVED, STRAY, TOO_LONG, WAITING
 from model import Box, crc16, field, number
 
 ROOT = os.path.dirname(os.path.dirname(os.path.abspath(__file__)))
@@ -54,7 +54,10 @@ def refused(answer):
 
 CLOCK = frame(b"\x05\x00\x00")
 MONITOR = frame(b"\x05\x00\x01")
-HOW_MANY = frame(b"\xFF" + string(b"pulses") + b"\x00\x00\x00")          # 001, Custom Command: what the host itself answers
+
+# 001, Custom Command: what the host itself answers.
+HOW_MANY = frame(b"\xFF" + string(b"pulses") + b"\x00\x00\x00")
+LAST_REFUSED = frame(b"\xFF" + string(b"refused") + b"\x00\x00\x00")
 
 
 # ---------------------------------------------------------------------------------------------
@@ -279,9 +282,28 @@ def login_answer(content):
     return frame(b"\x7D\xFF" if strings else b"\x7D\x80")
 
 
-def standing_answer(n):
-    """001, Custom Command Response: status 0, a payload of one byte."""
-    return frame(b"\xFE\x00\x00\x01" + bytes([n]))
+def custom_answer(payload):
+    """001, Custom Command Response, with status 0."""
+    return frame(b"\xFE\x00" + field(len(payload), 2) + payload)
+
+
+class Refusals:
+    """The last message that was refused, as the host has to remember it."""
+
+    def __init__(self):
+        self.payload = bytes(6)                 # all but how long ago
+        self.at = None
+
+    def heard(self, c, content, answer, place, now):
+        """Pieces that end nothing, messages that are served and single bytes are no refusals.  What was too long is not kept."""
+        if answer not in (WAITING, SERVED, KEEP_ALIVE, STRAY):
+            type_ = content[:1] if answer != TOO_LONG else b""
+            self.payload = bytes([1 + len(type_), c]) + (type_ or b"\x00") + bytes([answer]) + field(place, 2)
+            self.at = now
+
+    def answer(self, now):
+        seconds = 0 if self.at is None else (now - self.at) // 1000
+        return custom_answer(self.payload + field(seconds, 4))
 
 
 class Played:
@@ -293,6 +315,7 @@ class Played:
         self.passed = 0
         self.rises = {}                         # when each input was first told on, in ms
         self.answers = {}
+        self.refusals = Refusals()
         self.current = [None] * 4
         with open(path, encoding="ascii") as lines:
             for line in lines:
@@ -315,16 +338,23 @@ class Played:
             assert self.box.line(" ".join((name,) + words)) in (str(SERVED), str(OUT_OF_RANGE)), (name, words)
 
     def bytes(self, c, piece):
-        joined = bytes(self.box.connections[c].joined) + piece
-        answer, taken, reply = self.box.bytes_(c, 4096, piece)
+        content = (bytes(self.box.connections[c].joined) + piece)[5:]
+        answer, taken, place, reply = self.box.bytes_(c, 4096, piece)
         assert taken == len(piece) > 0, "the box took other bytes than the model"
         self.answers[answer] = self.answers.get(answer, 0) + 1
         self.current[c].taken += piece
-        self.current[c].replies += reply
-        if answer == NOT_OFFERED and len(joined) > 5 and joined[5] == 126:
-            self.current[c].replies += login_answer(joined[5:])
-        if answer == NOT_OFFERED and joined[5:] == HOW_MANY[5:]:
-            self.current[c].replies += standing_answer(len(self.box.queue))
+        own = self.host_answer(content) if answer == NOT_OFFERED else b""
+        self.current[c].replies += own or reply
+        if not own:
+            self.refusals.heard(c, content, answer, place, self.passed)
+
+    def host_answer(self, content):
+        """What the host itself replies to a message that the box does not offer; nothing where it is not the host's either."""
+        if content[:1] == b"\x7E":
+            return login_answer(content)
+        if content == HOW_MANY[5:]:
+            return custom_answer(bytes([len(self.box.queue)]))
+        return self.refusals.answer(self.passed) if content == LAST_REFUSED[5:] else b""
 
 
 def judge(host, clients):

@@ -4,7 +4,8 @@
     python3 tests/browser.py [FOLDER]       puts its pictures into FOLDER, or target/panel
 
 Presses a button by keyboard and one by a click, looks whether the relays of the box switch and the page shows it, pulses relays for a
-duration that it writes, raises alarms, takes the box away and gives it back.  Prints what it saw, and exits 1 at the first thing that is not so.
+duration that it writes, raises alarms, has a message refused, takes the box away and gives it back.  Prints what it saw, and exits 1 at the first
+thing that is not so.
 """
 
 import base64
@@ -161,6 +162,18 @@ def try_buttons(browser, host):
     browser.wait_for(f"{BUTTONS}[0].textContent === 'Close'", "relay 1 was opened by a click")
 
 
+def try_refused(browser, client, folder):
+    assert browser.value("document.getElementById('refused').hidden"), "a line for refused messages, and none was refused"
+    client.send(frame(b"\x15\x00\x02" + field(0x01FF, 8) + bytes(4)))
+    browser.wait_for(f"{TEXT}.includes('Last refused: connection 0, message of type 21, its list is cut at byte 15 (22), ')",
+                     "the last refused message is told in words")
+    browser.picture(os.path.join(folder, "panel-refused.png"), TABLET)
+    assert browser.value("document.documentElement.scrollHeight") <= 800, "the page does not fit a tablet with a refused message"
+    browser.picture(os.path.join(folder, "panel-refused-phone.png"), PHONE)
+    assert browser.value("document.documentElement.scrollWidth") <= 412, "the page is wider than a phone with a refused message"
+    browser.ask("Emulation.setDeviceMetricsOverride", **TABLET)
+
+
 def write_duration(browser, ms):
     """Writes it as a hand does: all that stands there is replaced."""
     browser.value("(field => { field.focus(); field.select(); })(document.getElementById('ms'))")
@@ -210,6 +223,7 @@ def main():
         try:
             try_page(browser, host, folder)
             try_buttons(browser, host)
+            try_refused(browser, client, folder)
             try_pulses(browser, host, client, folder)
             try_loss(browser, host, folder)
             panel.process.terminate()

@@ -27,7 +27,7 @@ LIMIT = 120     # seconds until a run is given up
 
 # "Input .. prints ..", 01, the console.
 EXAMPLE = b"010004FFFF0A0A0505\n010004FFFF0A030001\n010003FFFF0A0300\n06\n"
-ANSWERS = b"0105\n0104\n0A04\n0204\n"
+ANSWERS = b"0105\n0104\n1404\n0204\n"
 
 
 # ---------------------------------------------------------------------------------------------

@@ -156,10 +156,10 @@ class Shrinker:
             content = piece[5:]
             for frame in (unchecked, traces.framed):
                 if self.differs(with_piece(frame(content))) is not None:
-                    entries = entries_of(content)
+                    entries, missing, rest = parts_of(content)
                     if entries:
-                        kept = self.drop(entries, lambda kept: with_piece(frame(with_entries(content, kept))))
-                        content = with_entries(content, kept)
+                        kept = self.drop(entries, lambda kept: with_piece(frame(with_entries(content, kept, missing, rest))))
+                        content = with_entries(content, kept, missing, rest)
                     piece = frame(self.drop(content, lambda content: with_piece(frame(content))))
                     break
         piece = self.drop(piece, with_piece)
@@ -197,20 +197,26 @@ def unchecked(content):
     return traces.framed(content, 0xFFFF)
 
 
-def entries_of(content):
-    """The entries of a message of type 21 or 23 that fits; None for any other."""
+def parts_of(content):
+    """Of a message of type 21 or 23 the whole entries, as many as its count says at most, how many of those are missing, and
+    what is behind them; no entries of any other.
+    """
     entries, position = [], 3
     if content[0] not in (21, 23) or len(content) < 3:
-        return None
-    while position < len(content):
+        return entries, 0, b""
+    count = number(content[1:3])
+    while len(entries) < count:
         size = 8 if content[0] == 21 else 10 + number(content[position + 8:position + 10])
+        if position + size > len(content):
+            break
         entries.append(content[position:position + size])
         position += size
-    return entries if position == len(content) and len(entries) == number(content[1:3]) else None
+    return entries, count - len(entries), content[position:]
 
 
-def with_entries(content, entries):
-    return content[:1] + field(len(entries), 2) + b"".join(entries)
+def with_entries(content, entries, missing, rest):
+    """The count goes with the entries: a message that fits still does, and another lacks or has left over as much as before."""
+    return content[:1] + field(len(entries) + missing, 2) + b"".join(entries) + rest
 
 
 def show(lines, play):

@@ -1,5 +1,5 @@
 #!/usr/bin/env python3
-"""The box of 01-scope.md, with requests M-100, M-101 and M-103 of 02, as a plain machine over joined bytes.
+"""The box of 01-scope.md, with requests M-100, M-101, M-103 and M-105 of 02, as a plain machine over joined bytes.
 
 This is the judge a proved implementation is held to, so it is written for a reader: the rules in
 01's order, one short function each.  It shares nothing with the implementation.
@@ -18,8 +18,8 @@ and served singly, so that at any time only the unfinished message is left of th
 import re
 import sys
 
-from answers import (ALREADY_OPEN, BAD_CHECKSUM, BAD_LENGTH, BAD_RANK, KEEP_ALIVE, LOW_RANK, NO_CONNECTION, NOT_OFFERED,
-                     OUT_OF_RANGE, QUEUE_FULL, SERVED, SHORT_BUFFER, STRAY, TOO_LONG, WAITING)
+from answers import (ALREADY_OPEN, BAD_CHECKSUM, BAD_RANK, ENDS_EARLY, KEEP_ALIVE, LEFT_OVER, LIST_CUT, LOW_RANK,
+                     NO_CONNECTION, NOT_OFFERED, OUT_OF_RANGE, QUEUE_FULL, SERVED, SHORT_BUFFER, STRAY, TOO_LONG, WAITING)
 
 TOP32 = 4294967295                      # largest count, largest d
 TOP64 = 18446744073709551615            # largest clock, largest usage
@@ -30,11 +30,16 @@ PULSES = 31                             # M-100, 2 and 5: pulses that stand at m
 
 
 class Refused(Exception):
-    """A message refused by its content: from its type on, up to a full queue.  Raised before anything is changed."""
+    """A message refused by its content: from its type on, up to a full queue.  Raised before anything is changed.
 
-    def __init__(self, answer):
-        super().__init__(answer)
+    M-105, 2: the place is where in the content, whose type is at 0, the first byte is missing or too many; 0 where
+    it is not its length that is refused.
+    """
+
+    def __init__(self, answer, place=0):
+        super().__init__(answer, place)
         self.answer = answer
+        self.place = place
 
 
 # ---------------------------------------------------------------------------------------------
@@ -137,18 +142,22 @@ def crc16(data):
 class Fields:
     """Messages, 2: a content is read from its front on, within its end and up to it."""
 
-    __slots__ = ("content", "position")
+    __slots__ = ("content", "position", "in_list")
 
     def __init__(self, content, position):
         self.content = content
         self.position = position
+        self.in_list = False
 
     def left(self):
         return len(self.content) - self.position
 
     def block(self, size):
+        """M-105, 1 and 2: whichever field is cut, and wherever in it, the first byte that is missing is the one
+        behind the content's last.
+        """
         if size > self.left():
-            raise Refused(BAD_LENGTH)
+            raise Refused(LIST_CUT if self.in_list else ENDS_EARLY, len(self.content))
         start = self.position
         self.position = start + size
         return self.content[start:self.position]
@@ -156,9 +165,20 @@ class Fields:
     def number(self, size):
         return number(self.block(size))
 
+    def listed(self, entry):
+        """What `entry` reads, as often as a count (2) says.  M-105, 1: the list begins behind its count and ends
+        with its last entry; one of no entries is never cut.
+        """
+        count = self.number(2)
+        self.in_list = True
+        entries = [entry() for _ in range(count)]
+        self.in_list = False
+        return entries
+
     def end(self):
+        """M-105, 1 and 2: the layout has ended, so the next byte is too many if there is one."""
         if self.left():
-            raise Refused(BAD_LENGTH)
+            raise Refused(LEFT_OVER, self.position)
 
 
 # ---------------------------------------------------------------------------------------------
@@ -362,21 +382,21 @@ class Box:
 
     def bytes_(self, c, cap, piece, row=PULSES):
         """Frame, 10 and 11: bytes are taken up to the end of a message, or else all.  Answers the number,
-        the bytes taken and the reply.
+        the bytes taken, the place (M-105, 2) and the reply.
         """
         refused = self.refuse_call(c, cap, row)
         if refused:
-            return refused, 0, b""
+            return refused, 0, 0, b""
         conn = self.connections[c]
         before = len(conn.joined)
         conn.joined += piece
         end = self.message_end(conn.joined)
         if end is None:
-            return WAITING, len(piece), b""
+            return WAITING, len(piece), 0, b""
         message = bytes(conn.joined[:end])
         conn.joined = bytearray()       # what follows in the piece was not taken
-        answer, reply = self.judge(conn, message)
-        return answer, end - before, reply
+        answer, place, reply = self.judge(conn, message)
+        return answer, end - before, place, reply
 
     def message_end(self, joined):
         """The length of the first message of the joined bytes; None while it is unfinished.
@@ -394,23 +414,24 @@ class Box:
         return end if len(joined) >= end else None
 
     def judge(self, conn, message):
-        """One whole message: its number and its reply.  Frame, 7; Answer numbers, 1: length before checksum,
-        both before the content.  Frame, 12: of a content that is too long nothing else is judged.
+        """One whole message: its number, its place and its reply.  Frame, 7; Answer numbers, 1: length before
+        checksum, both before the content.  Frame, 12: of a content that is too long nothing else is judged.
+        M-105, 2: no place but where the content is refused by its length.
         """
         if message[0] == 0x06:
-            return KEEP_ALIVE, b""
+            return KEEP_ALIVE, 0, b""
         if message[0] != 0x01:
-            return STRAY, b""
+            return STRAY, 0, b""
         content = message[5:]
         if len(content) > self.LONGEST:
-            return TOO_LONG, b""
+            return TOO_LONG, 0, b""
         if not self.checksum_passes(conn, number(message[3:5]), content):
-            return BAD_CHECKSUM, b""
+            return BAD_CHECKSUM, 0, b""
         try:
             answer = self.serve(conn, content)
         except Refused as refusal:
-            return refusal.answer, b""
-        return SERVED, self.frame(answer) if answer else b""
+            return refusal.answer, refusal.place, b""
+        return SERVED, 0, self.frame(answer) if answer else b""
 
     def checksum_passes(self, conn, sent, content):
         """Frame, 3 and 5: that of the content, without the header; 0xFFFF is none.  M-103, 3: on a strict connection
@@ -426,7 +447,7 @@ class Box:
 
     def serve(self, conn, content):
         """The content of the reply to a message, empty where it has none.  Answer numbers, 1: the type is
-        judged first, then the rank.
+        judged first, then the rank.  M-105, 4: then the length, for each type by itself, and what else it says.
         """
         if not content or content[0] not in self.OFFERED:
             raise Refused(NOT_OFFERED)
@@ -441,7 +462,8 @@ class Box:
 
     def request(self, conn, fields):
         """Messages, 5, 1: request (2) and, or not, an interval (4), for which there is no use yet.  Messages,
-        5, 6; Answer numbers, 2: a request that is there is judged before the length.
+        5, 6; Answer numbers, 2: a request that is there is judged before the length.  M-105, 1: what is behind
+        the request is an interval, be it a part of one.
         """
         request = fields.number(2)
         if request not in (0, 1, 2, 4, 5):
@@ -493,8 +515,8 @@ class Box:
         return b""
 
     def command(self, conn, fields):
-        """Messages, 10: 4 bytes with the type, 8 for the pulses of M-100, 1.  Answer numbers, 2: the action is
-        judged first, then the length, then the channel.  No reply.
+        """Messages, 10: 4 bytes with the type, 8 for the pulses of M-100, 1.  Answer numbers, 2, and M-105, 4: the
+        action is judged first, then the length that it asks for, then the channel.  No reply.
         """
         action = fields.number(1)
         if action not in (1, 2, 3, 5, 6, 7, 8, 9, 10):
@@ -588,10 +610,9 @@ class Box:
         """Messages, 21, 1 and 2: count (2) and IDs (8); type 22 has the count too, and of each ID in turn
         itself, how long its block is (2), and the block.
         """
-        count = fields.number(2)
-        ids = [fields.number(8) for _ in range(count)]
+        ids = fields.listed(lambda: fields.number(8))
         fields.end()
-        content = bytearray(b"\x16" + field(count, 2))
+        content = bytearray(b"\x16" + field(len(ids), 2))
         for id in ids:
             block = self.read_block(id)
             content += field(id, 8) + field(len(block), 2) + block
@@ -612,8 +633,7 @@ class Box:
         """Messages, 23, 1 to 3: count (2), and of each entry ID (8), length (2) and block; none is written before
         all are known to fit, then one by one.  Messages, 23, 6: type 24 says how many were (2).
         """
-        count = fields.number(2)
-        entries = [(fields.number(8), fields.block(fields.number(2))) for _ in range(count)]
+        entries = fields.listed(lambda: (fields.number(8), fields.block(fields.number(2))))
         fields.end()
         written = 0
         for id, block in entries:
@@ -670,7 +690,7 @@ class Box:
 
     def enumerate_devices(self, conn, fields):
         """Messages, 26: flags (1); type 27 repeats them before count (2) and IDs, first those of the inputs.
-        Flag 1 finds all, flag 2 none.
+        Flag 1 finds all, flag 2 none.  M-105, 4: the length is judged before the flags.
         """
         flags = fields.number(1)
         fields.end()
@@ -716,8 +736,8 @@ class Box:
     def obey(self, name, *words):
         if name == "bytes" and len(words) >= 3:
             c, cap = numbers(words[:2], (255, 65536))
-            answer, taken, reply = self.bytes_(c, cap, piece_of(words[2]), row_of(words[3:]))
-            return f"{answer} {taken} {len(reply)} {shown(reply)}"
+            answer, taken, place, reply = self.bytes_(c, cap, piece_of(words[2]), row_of(words[3:]))
+            return f"{answer} {taken} {place} {len(reply)} {shown(reply)}"
         if name == "collect":
             answer, reply = self.collect(*numbers(words, (255, 65536)))
             return f"{answer} {len(reply)} {shown(reply)}"

@@ -15,8 +15,8 @@ import time
 
 import model
 import traces
-from answers import (ALREADY_OPEN, BAD_CHECKSUM, BAD_LENGTH, BAD_RANK, KEEP_ALIVE, LOW_RANK, NOT_OFFERED, OUT_OF_RANGE, QUEUE_FULL,
-                     SERVED, SHORT_BUFFER, STRAY, TOO_LONG, WAITING)
+from answers import (ALREADY_OPEN, BAD_CHECKSUM, BAD_RANK, ENDS_EARLY, KEEP_ALIVE, LEFT_OVER, LIST_CUT, LOW_RANK, NO_CONNECTION,
+                     NOT_OFFERED, OUT_OF_RANGE, QUEUE_FULL, SERVED, SHORT_BUFFER, STRAY, TOO_LONG, WAITING)
 from model import Box, Fields, PULSES, Refused, TOP32, TOP64, crc16, field, number
 
 MUTANTS = {}
@@ -27,6 +27,14 @@ def named(name):
         MUTANTS[name] = box
         return box
     return enter
+
+
+def hold_to(whole, content):
+    """Refuses a content that is not so many bytes long."""
+    if len(content) < whole:
+        raise Refused(ENDS_EARLY, len(content))
+    if len(content) > whole:
+        raise Refused(LEFT_OVER, whole)
 
 
 def signed(data):
@@ -472,7 +480,7 @@ class _(Box):
                     if crc16(joined[5:5 + size]) != number(joined[3:5]):
                         taken = max(0, 4 + size - len(conn.joined))
                         conn.joined = bytearray()
-                        return BAD_CHECKSUM, taken, b""
+                        return BAD_CHECKSUM, taken, 0, b""
         return super().bytes_(c, cap, piece, row)
 
 
@@ -504,7 +512,7 @@ class _(Box):
 class _(Box):
     def judge(self, conn, message):
         if message[0] == 1 and 6 <= len(message) <= 1029 and message[5] not in self.OFFERED:
-            return NOT_OFFERED, b""
+            return NOT_OFFERED, 0, b""
         return super().judge(conn, message)
 
 
@@ -512,7 +520,7 @@ class _(Box):
 class _(Box):
     def bytes_(self, c, cap, piece, row=PULSES):
         if self.refuse_call(c, cap, row) is None and len(self.connections[c].joined) > 5 and piece[:1] == b"\x06":
-            return KEEP_ALIVE, 1, b""
+            return KEEP_ALIVE, 1, 0, b""
         return super().bytes_(c, cap, piece, row)
 
 
@@ -527,34 +535,34 @@ class _(Box):
 @named("stray byte taken for a keep-alive")
 class _(Box):
     def judge(self, conn, message):
-        return (KEEP_ALIVE, b"") if message[0] == 0x86 else super().judge(conn, message)
+        return (KEEP_ALIVE, 0, b"") if message[0] == 0x86 else super().judge(conn, message)
 
 
 @named("taken one byte past the end")
 class _(Box):
     def bytes_(self, c, cap, piece, row=PULSES):
-        answer, taken, reply = super().bytes_(c, cap, piece, row)
+        answer, taken, place, reply = super().bytes_(c, cap, piece, row)
         if answer == SERVED and taken < len(piece):
             taken += 1
-        return answer, taken, reply
+        return answer, taken, place, reply
 
 
 @named("all of the piece taken though a message ended in it")
 class _(Box):
     def bytes_(self, c, cap, piece, row=PULSES):
-        answer, taken, reply = super().bytes_(c, cap, piece, row)
-        refused = answer in (BAD_CHECKSUM, NOT_OFFERED, LOW_RANK, BAD_LENGTH, OUT_OF_RANGE)
-        return answer, len(piece) if refused else taken, reply
+        answer, taken, place, reply = super().bytes_(c, cap, piece, row)
+        refused = answer in (BAD_CHECKSUM, NOT_OFFERED, LOW_RANK, ENDS_EARLY, LEFT_OVER, LIST_CUT, OUT_OF_RANGE)
+        return answer, len(piece) if refused else taken, place, reply
 
 
 @named("strays skipped in one call")
 class _(Box):
     def bytes_(self, c, cap, piece, row=PULSES):
-        answer, taken, reply = super().bytes_(c, cap, piece, row)
+        answer, taken, place, reply = super().bytes_(c, cap, piece, row)
         if answer == STRAY:
             while taken < len(piece) and piece[taken] not in (1, 6):
                 taken += 1
-        return answer, taken, reply
+        return answer, taken, place, reply
 
 
 @named("limit off by one: 1,024 refused")
@@ -576,26 +584,26 @@ class _(Box):
 
     def judge(self, conn, message):
         if message[0] == 1 and number(message[1:3]) > 1024:
-            return TOO_LONG, b""
+            return TOO_LONG, 0, b""
         return super().judge(conn, message)
 
 
 @named("message above the limit: half-read message not cleared")
 class _(Box):
     def judge(self, conn, message):
-        answer, reply = super().judge(conn, message)
+        answer, place, reply = super().judge(conn, message)
         if answer == TOO_LONG:
             conn.joined = bytearray(message[:3])
-        return answer, reply
+        return answer, place, reply
 
 
 @named("bad checksum: half-read message not cleared")
 class _(Box):
     def judge(self, conn, message):
-        answer, reply = super().judge(conn, message)
+        answer, place, reply = super().judge(conn, message)
         if answer == BAD_CHECKSUM:
             conn.joined = bytearray(message[:1])
-        return answer, reply
+        return answer, place, reply
 
 
 @named("buffer off by one: 4,095 enough")
@@ -629,7 +637,7 @@ class _(Box):
     def bytes_(self, c, cap, piece, row=PULSES):
         answer = super().bytes_(c, cap, piece, row)
         if cap < 4096 and self.is_open(c) and super().bytes_(c, 4096, piece, row)[0] == WAITING:
-            return SHORT_BUFFER, 0, b""
+            return SHORT_BUFFER, 0, 0, b""
         return answer
 
 
@@ -667,16 +675,15 @@ class _(Box):
 @named("length judged before the request")
 class _(Box):
     def request(self, conn, fields):
-        if len(fields.content) not in (3, 7):
-            raise Refused(BAD_LENGTH)
+        if len(fields.content) != 3:
+            hold_to(7, fields.content)
         return super().request(conn, fields)
 
 
 @named("length judged before the action")
 class _(Box):
     def command(self, conn, fields):
-        if len(fields.content) not in (4, 8):
-            raise Refused(BAD_LENGTH)
+        hold_to(8 if fields.content[1:2] in (b"\x06", b"\x07") else 4, fields.content)
         return super().command(conn, fields)
 
 
@@ -757,7 +764,7 @@ class _(Box):
 class _(Box):
     def read_devices(self, conn, fields):
         if fields.content[1:3] == b"\x00\x7F":
-            raise Refused(BAD_LENGTH)
+            raise Refused(LIST_CUT, len(fields.content))
         return super().read_devices(conn, fields)
 
 
@@ -1127,7 +1134,7 @@ class _(Box):
 class _(Box):
     def command(self, conn, fields):
         if len(fields.content) == 8 and fields.content[1] not in (6, 7):
-            raise Refused(BAD_LENGTH)
+            raise Refused(LEFT_OVER, 4)
         return super().command(conn, fields)
 
 
@@ -1591,7 +1598,7 @@ class _(Box):
 class _(Box):
     def bytes_(self, c, cap, piece, row=PULSES):
         if row < PULSES:
-            return SHORT_BUFFER, 0, b""
+            return SHORT_BUFFER, 0, 0, b""
         return super().bytes_(c, cap, piece, row)
 
 
@@ -1600,7 +1607,7 @@ class _(Box):
     def bytes_(self, c, cap, piece, row=PULSES):
         answer = super().bytes_(c, cap, piece, row)
         if row < PULSES and self.is_open(c) and super().bytes_(c, cap, piece)[0] == WAITING:
-            return SHORT_BUFFER, 0, b""
+            return SHORT_BUFFER, 0, 0, b""
         return answer
 
 
@@ -1859,10 +1866,10 @@ class _(Box):
 @named("a bad checksum takes strictness away")
 class _(Box):
     def judge(self, conn, message):
-        answer, reply = super().judge(conn, message)
+        answer, place, reply = super().judge(conn, message)
         if answer == BAD_CHECKSUM:
             conn.strict = 0
-        return answer, reply
+        return answer, place, reply
 
 
 @named("strictness lasts for one message")
@@ -2035,10 +2042,10 @@ class _(Box):
 @named("strictness judged before the limit")
 class _(Box):
     def judge(self, conn, message):
-        answer, reply = super().judge(conn, message)
+        answer, place, reply = super().judge(conn, message)
         if answer == TOO_LONG and conn.strict and message[3:5] == b"\xFF\xFF":
-            return BAD_CHECKSUM, b""
-        return answer, reply
+            return BAD_CHECKSUM, 0, b""
+        return answer, place, reply
 
 
 @named("strictness judged at the header")
@@ -2050,7 +2057,7 @@ class _(Box):
             if begun[:1] == b"\x01" and begun[3:5] == b"\xFF\xFF" and self.message_end(begun) is None:
                 taken = 5 - len(conn.joined)
                 conn.joined = bytearray()
-                return BAD_CHECKSUM, taken, b""
+                return BAD_CHECKSUM, taken, 0, b""
         return super().bytes_(c, cap, piece, row)
 
 
@@ -2060,34 +2067,614 @@ class _(Judging):
         return False
 
     def judge(self, conn, message):
-        answer, reply = super().judge(conn, message)
+        answer, place, reply = super().judge(conn, message)
         judged = message[0] == 1 and answer != TOO_LONG
         refused = judged and conn.strict and not Box.checksum_passes(self, conn, number(message[3:5]), message[5:])
-        return (BAD_CHECKSUM, b"") if refused else (answer, reply)
+        return (BAD_CHECKSUM, 0, b"") if refused else (answer, place, reply)
 
 
 @named("strict refusal: half-read message not cleared")
 class _(Box):
     def judge(self, conn, message):
-        answer, reply = super().judge(conn, message)
+        answer, place, reply = super().judge(conn, message)
         if answer == BAD_CHECKSUM and message[3:5] == b"\xFF\xFF":
             conn.joined = bytearray(message[:5])
-        return answer, reply
+        return answer, place, reply
 
 
 @named("strict refusal: all of the piece taken")
 class _(Box):
     def bytes_(self, c, cap, piece, row=PULSES):
-        answer, taken, reply = super().bytes_(c, cap, piece, row)
+        answer, taken, place, reply = super().bytes_(c, cap, piece, row)
         strictly = answer == BAD_CHECKSUM and self.connections[c].strict
-        return answer, len(piece) if strictly else taken, reply
+        return answer, len(piece) if strictly else taken, place, reply
 
 
 @named("strict refusal answered as a type that is not offered")
 class _(Box):
     def judge(self, conn, message):
-        answer, reply = super().judge(conn, message)
-        return NOT_OFFERED if answer == BAD_CHECKSUM and message[3:5] == b"\xFF\xFF" else answer, reply
+        answer, place, reply = super().judge(conn, message)
+        return NOT_OFFERED if answer == BAD_CHECKSUM and message[3:5] == b"\xFF\xFF" else answer, place, reply
+
+
+# -- wrong lengths and their places: M-105 -----------------------------------------------------------------
+
+BAD_LENGTH = 10                                     # what was given for every wrong length before
+WRONG_LENGTHS = (ENDS_EARLY, LEFT_OVER, LIST_CUT)
+LISTS = (21, 23)
+
+
+def telling(name, told):
+    """A box that tells something else of a content of the wrong length; `told` gives answer and place from them and the content."""
+    @named(name)
+    class _(Box):
+        def judge(self, conn, message):
+            answer, place, reply = super().judge(conn, message)
+            if answer in WRONG_LENGTHS:
+                answer, place = told(answer, place, message[5:])
+            return answer, place, reply
+
+
+def telling_of(answer, name, told):
+    """The same of one answer alone."""
+    telling(name, lambda given, place, content: told(place, content) if given == answer else (given, place))
+
+
+def end_of(content, entries):
+    """Where so many entries of a list end."""
+    position = 3
+    for _ in range(entries):
+        position += 10 + number(content[position + 8:position + 10]) if content[0] == 23 else 8
+    return position
+
+
+def count_of(content):
+    return number(content[1:3])
+
+
+telling("place counted from behind the type byte", lambda answer, place, content: (answer, place - 1))
+telling("place counted from 1", lambda answer, place, content: (answer, place + 1))
+telling("place counted from the frame's first byte", lambda answer, place, content: (answer, place + 5))
+telling("place always 0", lambda answer, place, content: (answer, 0))
+telling("place kept in 8 bits", lambda answer, place, content: (answer, place & 0xFF))
+telling("place kept in 10 bits", lambda answer, place, content: (answer, place & 0x3FF))
+telling("place not above 255", lambda answer, place, content: (answer, min(place, 255)))
+telling("place not above 1,023", lambda answer, place, content: (answer, min(place, 1023)))
+
+telling_of(ENDS_EARLY, "end too early told of the content's last byte", lambda place, content: (ENDS_EARLY, place - 1))
+telling_of(ENDS_EARLY, "end too early told one too far", lambda place, content: (ENDS_EARLY, place + 1))
+telling_of(ENDS_EARLY, "end too early told without its place", lambda place, content: (ENDS_EARLY, 0))
+telling_of(LIST_CUT, "cut list told of the content's last byte", lambda place, content: (LIST_CUT, place - 1))
+telling_of(LIST_CUT, "cut list told one too far", lambda place, content: (LIST_CUT, place + 1))
+telling_of(LIST_CUT, "cut list told without its place", lambda place, content: (LIST_CUT, 0))
+telling_of(LIST_CUT, "cut list told of its beginning", lambda place, content: (LIST_CUT, 3))
+telling_of(LIST_CUT, "cut list told of its count", lambda place, content: (LIST_CUT, 1))
+telling_of(LEFT_OVER, "surplus told of the layout's last byte", lambda place, content: (LEFT_OVER, place - 1))
+telling_of(LEFT_OVER, "surplus told one too far", lambda place, content: (LEFT_OVER, place + 1))
+telling_of(LEFT_OVER, "surplus told without its place", lambda place, content: (LEFT_OVER, 0))
+telling_of(LEFT_OVER, "surplus counted from the content's end", lambda place, content: (LEFT_OVER, len(content) - place))
+telling_of(LEFT_OVER, "surplus told of the content's length", lambda place, content: (LEFT_OVER, len(content)))
+telling_of(LEFT_OVER, "surplus told of the content's last byte", lambda place, content: (LEFT_OVER, len(content) - 1))
+
+telling_of(ENDS_EARLY, "end too early answered 10 as before", lambda place, content: (BAD_LENGTH, 0))
+telling_of(LEFT_OVER, "surplus answered 10 as before", lambda place, content: (BAD_LENGTH, 0))
+telling_of(LIST_CUT, "cut list answered 10 as before", lambda place, content: (BAD_LENGTH, 0))
+telling("10 answered, with the place", lambda answer, place, content: (BAD_LENGTH, place))
+telling("20 and 21 exchanged",
+        lambda answer, place, content: ({ENDS_EARLY: LEFT_OVER, LEFT_OVER: ENDS_EARLY}.get(answer, answer), place))
+telling("20 and 22 exchanged",
+        lambda answer, place, content: ({ENDS_EARLY: LIST_CUT, LIST_CUT: ENDS_EARLY}.get(answer, answer), place))
+telling("21 and 22 exchanged",
+        lambda answer, place, content: ({LEFT_OVER: LIST_CUT, LIST_CUT: LEFT_OVER}.get(answer, answer), place))
+
+
+# Which end is one within a list.
+
+def ending(name, answer, where):
+    """A box that answers so of contents that end where `where` says."""
+    telling(name, lambda given, place, content: (answer if given != LEFT_OVER and where(content) else given, place))
+
+
+def in_a_list(content, *places):
+    return content[0] in LISTS and len(content) >= 3 and traces.cut_in(content) in places
+
+
+ending("20 inside a list", ENDS_EARLY, lambda content: True)
+ending("20 inside a list of IDs", ENDS_EARLY, lambda content: content[0] == 21)
+ending("20 inside a list of entries", ENDS_EARLY, lambda content: content[0] == 23)
+ending("20 for a list of which no byte is there", ENDS_EARLY, lambda content: len(content) == 3)
+ending("20 where only the first byte of a list is there", ENDS_EARLY, lambda content: len(content) == 4)
+ending("20 between two entries", ENDS_EARLY, lambda content: len(content) > 3 and in_a_list(content, "before an ID"))
+ending("20 in an ID", ENDS_EARLY, lambda content: in_a_list(content, "in an ID"))
+ending("20 in an entry's length field", ENDS_EARLY, lambda content: in_a_list(content, "before a length", "in a length"))
+ending("20 within an entry's length field", ENDS_EARLY, lambda content: in_a_list(content, "in a length"))
+ending("20 in an entry's block", ENDS_EARLY, lambda content: in_a_list(content, "before a block", "in a block"))
+ending("20 for a block of which no byte is there", ENDS_EARLY, lambda content: in_a_list(content, "before a block"))
+ending("20 where not one entry is whole", ENDS_EARLY,
+    lambda content: content[0] in LISTS and len(content) >= 3 and len(content) < end_of(content, 1))
+ending("20 where more than the last entry is missing", ENDS_EARLY,
+    lambda content: content[0] == 21 and len(content) >= 3 and len(content) < end_of(content, count_of(content) - 1))
+ending("20 for a count that no content can hold", ENDS_EARLY, lambda content: content[0] == 21 and count_of(content) > 127)
+ending("22 where the count is cut", LIST_CUT, lambda content: content[0] in LISTS)
+ending("22 where half of the count is there", LIST_CUT, lambda content: content[0] in LISTS and len(content) == 2)
+ending("22 where nothing of the count is there", LIST_CUT, lambda content: content[0] in LISTS and len(content) == 1)
+ending("22 for whatever is cut", LIST_CUT, lambda content: True)
+ending("22 for a clock that is cut", LIST_CUT, lambda content: content[0] == 7)
+ending("22 for a pulse that is cut", LIST_CUT, lambda content: content[:2] in (b"\x0A\x06", b"\x0A\x07"))
+ending("22 for an interval that is cut", LIST_CUT, lambda content: content[0] == 5 and len(content) > 3)
+
+
+# Where what is missing begins, by the field that lacks it.
+
+def cutting(name, place):
+    """A box that tells another place of a field that is cut: `place` gives it from the fields and the field's size."""
+    @named(name)
+    class _(Box):
+        class Fields(Fields):
+            def block(self, size):
+                try:
+                    return super().block(size)
+                except Refused as refusal:
+                    raise Refused(refusal.answer, place(self, size)) from None
+
+
+cutting("missing byte told of its field's beginning", lambda fields, size: fields.position)
+cutting("missing byte told of its field's end", lambda fields, size: fields.position + size)
+cutting("how many bytes are missing told for where", lambda fields, size: size - fields.left())
+cutting("how many bytes are there told for where", lambda fields, size: fields.left())
+
+
+@named("missing byte told of its entry's beginning")
+class _(Box):
+    class Fields(Fields):
+        def listed(self, entry):
+            def begun():
+                start = self.position
+                try:
+                    return entry()
+                except Refused as refusal:
+                    raise Refused(refusal.answer, start) from None
+            return super().listed(begun)
+
+
+# Requests, whose interval may be missing.
+
+def requesting(name, lengths, *told):
+    """A box that tells this answer and place of Requests of those lengths."""
+    telling(name, lambda answer, place, content: told if content[0] == 5 and len(content) in lengths else (answer, place))
+
+
+requesting("Request of 4 to 6 bytes answered 10 as before", (4, 5, 6), BAD_LENGTH, 0)
+requesting("Request of 4 to 6 bytes has a surplus from 3 on", (4, 5, 6), LEFT_OVER, 3)
+requesting("Request of 6 bytes has a surplus from 3 on", (6,), LEFT_OVER, 3)
+requesting("Request of 4 bytes has a surplus from 3 on", (4,), LEFT_OVER, 3)
+requesting("Request of 4 to 6 bytes lacks its interval from 3 on", (4, 5, 6), ENDS_EARLY, 3)
+requesting("Request of 4 to 6 bytes lacks something at 7", (4, 5, 6), ENDS_EARLY, 7)
+requesting("Request of more than 7 bytes has a surplus from 3 on", range(8, 1025), LEFT_OVER, 3)
+requesting("Request of 8 bytes has a surplus at 8", (8,), LEFT_OVER, 8)
+requesting("Request of 9 bytes lacks a second interval", (9,), ENDS_EARLY, 9)
+requesting("Request that is cut told of where it should end", (1, 2), ENDS_EARLY, 3)
+requesting("Request that is cut answered as out of range", (1, 2), OUT_OF_RANGE, 0)
+
+
+@named("Request of 11 bytes has two intervals")
+class _(Box):
+    def request(self, conn, fields):
+        content = fields.content
+        return super().request(conn, Fields(content[:7], 1) if len(content) == 11 else fields)
+
+
+# Commands, whose length goes by their action.
+
+@named("pulse of 5 to 7 bytes has a surplus from 4 on")
+class _(Box):
+    def command(self, conn, fields):
+        if 4 < len(fields.content) < 8 and fields.content[1] in (6, 7):
+            raise Refused(LEFT_OVER, 4)
+        return super().command(conn, fields)
+
+
+@named("pulse's surplus told from 4 on")
+class _(Box):
+    def command(self, conn, fields):
+        if len(fields.content) > 8 and fields.content[1] in (6, 7):
+            raise Refused(LEFT_OVER, 4)
+        return super().command(conn, fields)
+
+
+@named("command of 5 to 7 bytes ends too early")
+class _(Box):
+    def command(self, conn, fields):
+        if 4 < len(fields.content) < 8 and fields.content[1] in (1, 2, 3, 5, 8, 9, 10):
+            raise Refused(ENDS_EARLY, len(fields.content))
+        return super().command(conn, fields)
+
+
+@named("command's surplus told from 8 on")
+class _(Box):
+    def command(self, conn, fields):
+        if len(fields.content) > 8 and fields.content[1] in (1, 2, 3, 5, 8, 9, 10):
+            raise Refused(LEFT_OVER, 8)
+        return super().command(conn, fields)
+
+
+@named("missing action answered as out of range")
+class _(Box):
+    def command(self, conn, fields):
+        if len(fields.content) == 1:
+            raise Refused(OUT_OF_RANGE)
+        return super().command(conn, fields)
+
+
+@named("unknown action of 2 or 3 bytes ends too early")
+class _(Box):
+    def command(self, conn, fields):
+        if len(fields.content) < 4:
+            raise Refused(ENDS_EARLY, len(fields.content))
+        return super().command(conn, fields)
+
+
+@named("unknown action of more than 8 bytes has a surplus")
+class _(Box):
+    def command(self, conn, fields):
+        if len(fields.content) > 8 and fields.content[1] not in (6, 7):
+            raise Refused(LEFT_OVER, 4)
+        return super().command(conn, fields)
+
+
+# Enumerations.
+
+@named("missing enumeration flags answered as out of range")
+class _(Box):
+    def enumerate_devices(self, conn, fields):
+        if len(fields.content) == 1:
+            raise Refused(OUT_OF_RANGE)
+        return super().enumerate_devices(conn, fields)
+
+
+# Lists.
+
+def listing(name, place):
+    """A box that tells another place of what is left over behind a list; `place` gives it from the content."""
+    telling(name, lambda answer, told, content: (answer, place(content) if answer == LEFT_OVER and content[0] in LISTS else told))
+
+
+listing("list's surplus told of its beginning", lambda content: 3)
+listing("list's surplus told of the first entry's end", lambda content: end_of(content, min(count_of(content), 1)))
+listing("list's surplus told of the last entry's beginning", lambda content: end_of(content, max(count_of(content) - 1, 0)))
+listing("list's surplus told without the blocks", lambda content: 3 + count_of(content) * (10 if content[0] == 23 else 8))
+listing("list's surplus told by entries of 8 bytes", lambda content: 3 + 8 * count_of(content))
+listing("list's surplus told of a whole entry more", lambda content: min(end_of(content, count_of(content) + 1), len(content)))
+
+telling("bytes behind a count of 0 told as a cut list",
+        lambda answer, place, content: (LIST_CUT if content[0] in LISTS and content[1:3] == bytes(2) else answer, place))
+telling("bytes behind a list told as one that is cut",
+        lambda answer, place, content: (LIST_CUT if content[0] in LISTS and answer == LEFT_OVER else answer, place))
+
+
+@named("surplus of a write judged before its blocks are read")
+class _(Box):
+    def write_devices(self, conn, fields):
+        content = fields.content
+        if len(content) > 3 + 15 * count_of(content):               # no block that is written is longer than 5 bytes
+            raise Refused(LEFT_OVER, 3 + 15 * count_of(content))
+        return super().write_devices(conn, fields)
+
+
+@named("surplus of a read judged before its count is whole")
+class _(Box):
+    def read_devices(self, conn, fields):
+        if len(fields.content) == 2:
+            raise Refused(LEFT_OVER, 1)
+        return super().read_devices(conn, fields)
+
+
+@named("list of no entries taken for one that is cut")
+class _(Box):
+    def serve(self, conn, content):
+        answer = super().serve(conn, content)
+        if content[0] in LISTS and content[1:] == bytes(2):
+            raise Refused(LIST_CUT, 3)
+        return answer
+
+
+@named("list's length worked out in 16 bits")
+class _(Box):
+    def read_devices(self, conn, fields):
+        count = count_of(fields.content)
+        if len(fields.content) >= 3 and count >> 13:
+            fields = Fields(b"\x15" + field(count & 0x1FFF, 2) + fields.content[3:], 1)
+        return super().read_devices(conn, fields)
+
+
+@named("count's high byte not looked at")
+class _(Box):
+    def serve(self, conn, content):
+        if len(content) >= 3 and content[0] in LISTS:
+            content = content[:1] + b"\x00" + content[2:]
+        return super().serve(conn, content)
+
+
+@named("count little-endian")
+class _(Box):
+    def serve(self, conn, content):
+        if len(content) >= 3 and content[0] in LISTS:
+            content = content[:1] + content[2:3] + content[1:2] + content[3:]
+        return super().serve(conn, content)
+
+
+@named("high byte of an entry's length not looked at")
+class _(Box):
+    class Fields(Fields):
+        def number(self, size):
+            return super().number(size) & (0xFF if self.in_list and size == 2 else TOP64)
+
+
+@named("last block may be cut")
+class _(Box):
+    class Fields(Fields):
+        def block(self, size):
+            return super().block(min(size, self.left()) if self.in_list and size not in (2, 8) else size)
+
+
+@named("entries written before what is left over is seen")
+class _(Box):
+    def write_devices(self, conn, fields):
+        try:
+            return super().write_devices(conn, fields)
+        except Refused as refusal:
+            if refusal.answer == LEFT_OVER:
+                super().write_devices(conn, Fields(fields.content[:refusal.place], 1))
+            raise
+
+
+# The place with other answers.
+
+def placing(name, answers, place):
+    """A box that tells a place with these answers too; `place` gives it from the content."""
+    @named(name)
+    class _(Box):
+        def judge(self, conn, message):
+            answer, told, reply = super().judge(conn, message)
+            return answer, place(message[5:]) if answer in answers else told, reply
+
+
+placing("place with answer 1: where the layout ended", (SERVED,), len)
+placing("place with answer 6: where judging ends", (TOO_LONG,), lambda content: 1024)
+placing("place with answer 7: the content's length", (BAD_CHECKSUM,), len)
+placing("place with answer 8: behind the type", (NOT_OFFERED,), lambda content: 1)
+placing("place with answer 9: behind the type", (LOW_RANK,), lambda content: 1)
+placing("place with answer 11: request, action or flags", (OUT_OF_RANGE,), lambda content: 1)
+placing("place with answer 11: the content's length", (OUT_OF_RANGE,), len)
+placing("place with answer 14: the content's length", (QUEUE_FULL,), len)
+
+
+@named("place with answer 9: what its length is")
+class _(Box):
+    def judge(self, conn, message):
+        answer, place, reply = super().judge(conn, message)
+        if answer == LOW_RANK and message[5] == 7 and len(message) != 14:
+            place = min(len(message) - 5, 9)
+        return answer, place, reply
+
+
+@named("place with answer 0: how much of the content is there")
+class _(Box):
+    def bytes_(self, c, cap, piece, row=PULSES):
+        answer, taken, place, reply = super().bytes_(c, cap, piece, row)
+        if answer == WAITING:
+            place = max(0, len(self.connections[c].joined) - 5)
+        return answer, taken, place, reply
+
+
+@named("place with refused calls: the piece's length")
+class _(Box):
+    def bytes_(self, c, cap, piece, row=PULSES):
+        answer, taken, place, reply = super().bytes_(c, cap, piece, row)
+        return answer, taken, len(piece) if answer in (NO_CONNECTION, SHORT_BUFFER) else place, reply
+
+
+def remembering(name, *answers):
+    """A box that with these answers tells the last place again."""
+    @named(name)
+    class _(Box):
+        def bytes_(self, c, cap, piece, row=PULSES):
+            answer, taken, place, reply = super().bytes_(c, cap, piece, row)
+            if answer in WRONG_LENGTHS:
+                self.last = place
+            return answer, taken, self.last if answer in answers else place, reply
+
+        def power(self, *settings):
+            super().power(*settings)
+            self.last = 0
+
+
+remembering("place left over from an earlier refusal", WAITING, SERVED, KEEP_ALIVE, NO_CONNECTION, SHORT_BUFFER, STRAY, TOO_LONG,
+            BAD_CHECKSUM, NOT_OFFERED, LOW_RANK, OUT_OF_RANGE, QUEUE_FULL)
+remembering("place left over while a message is half read", WAITING)
+remembering("place left over with a served message", SERVED)
+remembering("place left over with a keep-alive", KEEP_ALIVE)
+remembering("place left over with a refused connection", NO_CONNECTION)
+remembering("place left over with a short buffer or row", SHORT_BUFFER)
+remembering("place left over with a stray byte", STRAY)
+remembering("place left over with a content above the limit", TOO_LONG)
+remembering("place left over with a bad checksum", BAD_CHECKSUM)
+remembering("place left over with a type that is not offered", NOT_OFFERED)
+remembering("place left over with a low rank", LOW_RANK)
+remembering("place left over with a number out of range", OUT_OF_RANGE)
+remembering("place left over with a full queue", QUEUE_FULL)
+
+
+@named("place left over until a message is served")
+class _(Box):
+    def bytes_(self, c, cap, piece, row=PULSES):
+        answer, taken, place, reply = super().bytes_(c, cap, piece, row)
+        if answer in WRONG_LENGTHS or answer == SERVED:
+            self.last = place
+        return answer, taken, self.last, reply
+
+    def power(self, *settings):
+        super().power(*settings)
+        self.last = 0
+
+
+@named("place left over from before an opening")
+class _(Box):
+    def open(self, c, rank, strict=0):
+        answer = super().open(c, rank, strict)
+        if answer == SERVED:
+            self.anew.add(c)
+        return answer
+
+    def bytes_(self, c, cap, piece, row=PULSES):
+        answer, taken, place, reply = super().bytes_(c, cap, piece, row)
+        if answer in WRONG_LENGTHS:
+            self.last[c] = place
+        elif c in self.anew:
+            place = self.last.get(c, 0)
+        self.anew.discard(c)
+        return answer, taken, place, reply
+
+    def power(self, *settings):
+        super().power(*settings)
+        self.anew, self.last = set(), {}
+
+
+@named("the first place told for every later one")
+class _(Box):
+    def judge(self, conn, message):
+        answer, place, reply = super().judge(conn, message)
+        self.first = self.first or place
+        return answer, self.first if answer in WRONG_LENGTHS else place, reply
+
+    def power(self, *settings):
+        super().power(*settings)
+        self.first = 0
+
+
+@named("place told to administrators alone")
+class _(Box):
+    def judge(self, conn, message):
+        answer, place, reply = super().judge(conn, message)
+        return answer, place if conn.rank == 2 else 0, reply
+
+
+# Messages in pieces, and what follows them.
+
+@named("place counted within the last piece")
+class _(Box):
+    def bytes_(self, c, cap, piece, row=PULSES):
+        before = len(self.connections[c].joined) if self.is_open(c) else 0
+        answer, taken, place, reply = super().bytes_(c, cap, piece, row)
+        return answer, taken, max(0, place - max(0, before - 5)), reply
+
+
+@named("a content that ends too early waits for its rest")
+class _(Box):
+    def judge(self, conn, message):
+        answer, place, reply = super().judge(conn, message)
+        if answer in (ENDS_EARLY, LIST_CUT):
+            conn.joined = bytearray(message)
+        return answer, place, reply
+
+
+@named("a byte that follows taken for the missing one")
+class _(Box):
+    def bytes_(self, c, cap, piece, row=PULSES):
+        answer, taken, place, reply = super().bytes_(c, cap, piece, row)
+        missing = answer in (ENDS_EARLY, LIST_CUT) and taken < len(piece)
+        return answer, taken + missing, place, reply
+
+
+@named("surplus bytes left for the next message")
+class _(Box):
+    def judge(self, conn, message):
+        answer, place, reply = super().judge(conn, message)
+        self.surplus = len(message) - 5 - place if answer == LEFT_OVER else 0
+        return answer, place, reply
+
+    def bytes_(self, c, cap, piece, row=PULSES):
+        self.surplus = 0
+        answer, taken, place, reply = super().bytes_(c, cap, piece, row)
+        return answer, max(0, taken - self.surplus), place, reply
+
+
+# Where they stand.
+
+@named("clock's length judged before the rank")
+class _(Box):
+    def serve(self, conn, content):
+        if content[:1] == b"\x07":
+            hold_to(9, content)
+        return super().serve(conn, content)
+
+
+@named("a type alone in its content judged before the rank")
+class _(Box):
+    def serve(self, conn, content):
+        if len(content) == 1 and content[0] in self.OFFERED:
+            raise Refused(ENDS_EARLY, 1)
+        return super().serve(conn, content)
+
+
+@named("a count of which no entry is there judged before the rank")
+class _(Box):
+    def serve(self, conn, content):
+        if len(content) == 3 and content[0] in LISTS and count_of(content):
+            raise Refused(LIST_CUT, 3)
+        return super().serve(conn, content)
+
+
+@named("enumeration's length judged before the checksum")
+class _(Box):
+    def judge(self, conn, message):
+        answer, place, reply = super().judge(conn, message)
+        if answer == BAD_CHECKSUM and message[5:6] == b"\x1A" and len(message) > 7:
+            return LEFT_OVER, 2, b""
+        return answer, place, reply
+
+
+@named("a type that is not offered and stands alone ends too early")
+class _(Box):
+    def judge(self, conn, message):
+        answer, place, reply = super().judge(conn, message)
+        return (ENDS_EARLY, 1, reply) if answer == NOT_OFFERED and len(message) == 6 else (answer, place, reply)
+
+
+@named("no content at all ends too early")
+class _(Box):
+    def judge(self, conn, message):
+        answer, place, reply = super().judge(conn, message)
+        return ENDS_EARLY if answer == NOT_OFFERED and len(message) == 5 else answer, place, reply
+
+
+# The line.
+
+@named("place shown in hexadecimal")
+class _(Box):
+    def obey(self, name, *words):
+        printed = super().obey(name, *words)
+        if name == "bytes":
+            answer, taken, place, *reply = printed.split(" ")
+            printed = " ".join([answer, taken, f"{int(place):X}"] + reply)
+        return printed
+
+
+@named("place shown behind the reply's length")
+class _(Box):
+    def obey(self, name, *words):
+        printed = super().obey(name, *words)
+        if name == "bytes":
+            answer, taken, place, length, reply = printed.split(" ")
+            printed = " ".join([answer, taken, length, place, reply])
+        return printed
+
+
+@named("place shown with a collection too")
+class _(Box):
+    def obey(self, name, *words):
+        printed = super().obey(name, *words)
+        return printed.replace(" ", " 0 ", 1) if name == "collect" else printed
 
 
 # -- lines -------------------------------------------------------------------------------------------

@@ -23,10 +23,10 @@ import time
 import unittest
 
 import traces
-from answers import (BAD_CHECKSUM, BAD_LENGTH, KEEP_ALIVE, LOW_RANK, NOT_OFFERED, OUT_OF_RANGE, QUEUE_FULL, SERVED, STRAY, TOO_LONG,
-                     WAITING)
-from boxd import (Boxd, CLOCK, Client, HOW_MANY, MONITOR, PATIENCE, PROGRAM, Program, ROOT, block_pulse, frame, judge, login, pulse, refused,
-                  string, unchecked)
+from answers import (BAD_CHECKSUM, ENDS_EARLY, KEEP_ALIVE, LEFT_OVER, LIST_CUT, LOW_RANK, NOT_OFFERED, OUT_OF_RANGE, QUEUE_FULL, SERVED, STRAY,
+                     TOO_LONG, WAITING)
+from boxd import (Boxd, CLOCK, Client, HOW_MANY, LAST_REFUSED, MONITOR, PATIENCE, PROGRAM, Program, ROOT, block_pulse, frame, judge, login, pulse,
+                  refused, string, unchecked)
 from model import Box, INPUT_IDS, RELAY_IDS, field, number
 
 sys.path.insert(0, os.path.join(ROOT, "host"))
@@ -40,6 +40,14 @@ def settings_file(folder):
     with open(path, "w", encoding="ascii") as file:
         file.write(SETTINGS)
     return path
+
+
+def wrongly_asked(question):
+    """Messages that are no question to the host: its content with another end, payload size, command type, name or type, or cut."""
+    asks = question[5:]
+    name = asks[2:-3]
+    return [frame(content) for content in (asks[:-1], asks + b"\x00", asks[:-1] + b"\x01", asks[:-3] + b"\x01\x00\x00",
+                                           asks.replace(name, name.title()), b"\xFE" + asks[1:], asks[:1], asks[:2 + len(name)])]
 
 
 def run_all(*works):
@@ -91,8 +99,9 @@ class Case(unittest.TestCase):
 
 class Clients(Case):
     def stream(self, seed, messages):
+        """Now and then among them: which message was refused last, on whichever connection."""
         maker = traces.Maker(seed)
-        return b"".join(maker.message() for _ in range(messages))
+        return b"".join(maker.message() + (b"" if index % 25 else LAST_REFUSED) for index in range(messages))
 
     def one_client(self, host, clients, seed):
         """Three connections, one after the other.  Each may break off within a message."""
@@ -119,7 +128,7 @@ class Clients(Case):
             host.quit()
             played = judge(host, clients)
         self.assertEqual(len(clients), 12)
-        for answer in (WAITING, SERVED, KEEP_ALIVE, STRAY, TOO_LONG, BAD_CHECKSUM, NOT_OFFERED, BAD_LENGTH, OUT_OF_RANGE):
+        for answer in (WAITING, SERVED, KEEP_ALIVE, STRAY, TOO_LONG, BAD_CHECKSUM, NOT_OFFERED, OUT_OF_RANGE, ENDS_EARLY, LEFT_OVER, LIST_CUT):
             self.assertIn(answer, played.answers)
         return played
 
@@ -513,12 +522,126 @@ class Pulses(Case):
 
     def test_how_many_is_asked_right(self):
         """Another name, command type or payload is no question of this host: no answer, and refused as a type that is not offered."""
-        asks = HOW_MANY[5:]
-        wrong = (asks[:-1], asks + b"\x00", asks[:-1] + b"\x01", asks[:-3] + b"\x01\x00\x00", asks.replace(b"pulses", b"Pulses"), b"\xFE" + asks[1:],
-                 asks[:1], asks[:8])
+        wrong = wrongly_asked(HOW_MANY)
         with Boxd("--quiet", trace=True) as host, Client(host.port) as client:
-            client.send(b"".join(frame(content) for content in wrong) + HOW_MANY)
+            client.send(b"".join(wrong) + HOW_MANY)
             self.assertEqual(client.next_of(254), b"\xFE\x00\x00\x01\x00")
+            client.finish()
+            host.quit()
+            judge(host, [client])
+        self.assertEqual(host.count(refused(NOT_OFFERED)), len(wrong))
+
+
+# ---------------------------------------------------------------------------------------------
+# Where a message is refused (M-105)
+# ---------------------------------------------------------------------------------------------
+
+class Refused(Case):
+    # How the host tells each, with the place.
+    WORDS = {ENDS_EARLY: "it ends too early at byte {}", LEFT_OVER: "bytes are left over from byte {} on",
+             LIST_CUT: "its list of {} is cut at byte {}"}
+
+    # A right content of each type, with its lists and with its longer forms.
+    RIGHT = (b"\x05\x00\x00", b"\x05\x00\x04" + bytes(4), b"\x07" + bytes(8), b"\x0A\x01\x00\x02", b"\x0A\x0A\x81\x01", pulse(3, 5)[5:],
+             block_pulse(0x18, 0x08, 5)[5:], b"\x15\x00\x02" + field(INPUT_IDS[0], 8) + field(RELAY_IDS[7], 8),
+             b"\x17\x00\x02" + field(RELAY_IDS[0], 8) + b"\x00\x02\x01\x01" + field(INPUT_IDS[1], 8) + b"\x00\x05\x02\x00\x00\x00\x07",
+             b"\x1A\x03")
+
+    def crooked(self):
+        """The right contents cut behind every byte, and with bytes behind them."""
+        for content in self.RIGHT:
+            yield from (content[:n] for n in range(1, len(content)))
+            yield from (content + bytes(more) for more in (1, 2, 9))
+
+    def told(self, content, answer, place):
+        """How the host has to begin what it tells of a content that the model refuses for its length."""
+        words = self.WORDS[answer].format(*([number(content[1:3])] if answer == LIST_CUT else []), place)
+        return f"connection 0 sent a message of type {content[0]}; refused ({answer}): {words} (its type is byte 0). It should have "
+
+    def test_told_where(self):
+        """Every wrong length is told by its number, whether bytes are missing or too many, and where; as the model has it."""
+        box, expected = Box(), []
+        box.open(0, 2)
+        for content in self.crooked():
+            answer, _, place, _ = box.bytes_(0, 4096, frame(content))
+            if answer in self.WORDS:
+                expected.append(self.told(content, answer, place))
+        with Boxd("--quiet", trace=True) as host, Client(host.port) as client:
+            client.send(b"".join(frame(content) for content in self.crooked()))
+            client.finish()
+            host.quit()
+            judge(host, [client])
+        found = [line.split(" ", 1)[1] for line in host.lines if "byte 0" in line]
+        self.assertEqual([line[:len(words)] for line, words in zip(found, expected)], expected)
+        self.assertEqual(len(found), len(expected))
+        self.assertGreater(len(expected), 80)
+        for example in ("type 10; refused (20): it ends too early at byte 3 (its type is byte 0). It should have 4 bytes, or 8 for a pulse",
+                        "type 5; refused (21): bytes are left over from byte 7 on (its type is byte 0). It should have 3 bytes, or 7 with an interval",
+                        "type 21; refused (22): its list of 2 is cut at byte 15 (its type is byte 0). It should have 3 bytes, and 8 for each ID"):
+            self.assertTrue(any(example in line for line in found), example)
+
+    def last(self, client):
+        """What the host answers: kind, connection, type, answer, place; and how many seconds ago."""
+        payload = client.ask(LAST_REFUSED, 254)[4:]
+        self.assertEqual(len(payload), 10)
+        return (*payload[:4], number(payload[4:6])), number(payload[6:])
+
+    # Each with what is then told of it, sent on connection 1.
+    REFUSED = ((frame(b"\x0A\x03\x00"), (2, 1, 10, ENDS_EARLY, 3)), (frame(b"\x0A\x03\x00\x01\x00"), (2, 1, 10, LEFT_OVER, 4)),
+               (frame(b"\x15\x00\x02" + bytes(12)), (2, 1, 21, LIST_CUT, 15)), (unchecked(bytes(1025)), (1, 1, 0, TOO_LONG, 0)),
+               (b"\x01\x00\x02\x00\x00\x63\x00", (2, 1, 99, BAD_CHECKSUM, 0)), (unchecked(b""), (1, 1, 0, NOT_OFFERED, 0)),
+               (frame(b"\xFF"), (2, 1, 255, NOT_OFFERED, 0)), (frame(b"\x00"), (2, 1, 0, NOT_OFFERED, 0)),
+               (frame(b"\x0A\x03\x00\x09"), (2, 1, 10, OUT_OF_RANGE, 0)), (frame(b"\x15\xFF\xFF" + bytes(1021)), (2, 1, 21, LIST_CUT, 1024)),
+               (pulse(1, 60000) * 32, (2, 1, 10, QUEUE_FULL, 0)))
+
+    # What is no refusal of a message: single bytes, half a message and its end, what is served, and what the host itself answers.
+    OTHERS = (b"\x06", b"\x55\xFF", MONITOR[:7], MONITOR[7:], frame(b"\x0A\x01\x00\x01"), frame(b"\x17\x00\x01" + bytes(10)), HOW_MANY, LAST_REFUSED,
+              login(b"", b""), frame(b"\x7E\x09"))
+
+    def test_last_refused(self):
+        """The host tells the last refused message, of whichever connection, to every connection, and nothing else; also when it is closed."""
+        with Boxd("--quiet", trace=True) as host, Client(host.port) as asking, Client(host.port) as other:
+            self.assertEqual(self.last(asking), ((0, 0, 0, 0, 0), 0))
+            for message, told in self.REFUSED:
+                other.send(message + CLOCK)
+                other.next_of(6)
+                self.assertEqual(self.last(asking)[0], told)
+                self.assertEqual(self.last(other)[0], told)
+                for sent in self.OTHERS:
+                    other.send(sent)
+                other.clock()
+                self.assertEqual(self.last(asking)[0], told)
+            other.finish()
+            host.wait_for("connection 1 closed")
+            self.assertEqual(self.last(asking)[0], told)
+            asking.send(frame(b"\x1A"))
+            self.assertEqual(self.last(asking)[0], (2, 0, 26, ENDS_EARLY, 1))
+            asking.finish()
+            host.quit()
+            judge(host, [asking, other])
+        self.assertGreater(host.count("connection 0 asked which message was refused last"), len(self.REFUSED))
+
+    def test_how_long_ago(self):
+        """The seconds since it was refused grow with the box's own time; another refusal begins them anew."""
+        with Boxd("--quiet", trace=True) as host, Client(host.port) as client:
+            for _ in range(2):
+                begun = time.monotonic()
+                client.send(frame(b"\x1A"))
+                self.assertLess(self.last(client)[1], 1 + int(time.monotonic() - begun))
+                while self.last(client)[1] < 1:
+                    self.assertLess(time.monotonic() - begun, PATIENCE)
+                    time.sleep(0.02)
+                self.assertGreaterEqual(time.monotonic() - begun, 0.99)
+            client.finish()
+            host.quit()
+            judge(host, [client])
+
+    def test_last_refused_is_asked_right(self):
+        """As with the other question: what is asked otherwise is refused, and is then the last refused message itself."""
+        wrong = wrongly_asked(LAST_REFUSED)
+        with Boxd("--quiet", trace=True) as host, Client(host.port) as client:
+            client.send(b"".join(wrong))
+            self.assertEqual(self.last(client)[0], (2, 0, 255, NOT_OFFERED, 0))
             client.finish()
             host.quit()
             judge(host, [client])
@@ -633,10 +756,11 @@ class Login(Case):
         set_clock = frame(b"\x07" + field(1000000, 8))
         with self.start() as host, Client(host.port) as anna, Client(host.port) as olav:
             box = Box()
-            anna.send(b"".join(every) + set_clock + HOW_MANY + b"\x06\x55")
+            anna.send(b"".join(every) + set_clock + HOW_MANY + LAST_REFUSED + b"\x06\x55")
             self.assertEqual(self.answer(anna, login(b"anna", b"salmon"))[0], USER)
             self.assertEqual(anna.got[:7], USER)                    # nothing before it: all was refused
             self.monitor_as_model(anna, box)
+            self.assertEqual(anna.ask(LAST_REFUSED, 254)[4:10], bytes([2, 0, 255, NOT_OFFERED, 0, 0]))
             anna.send(set_clock)
             self.assertLess(anna.clock(), 900000)
             self.assertEqual(self.answer(olav, login(b"olav", b"Trout:7"))[0], ADMINISTRATOR)
@@ -649,7 +773,7 @@ class Login(Case):
             self.monitor_as_model(anna, box)
             host.quit()
         self.assertEqual(host.count(refused(LOW_RANK)), 9)
-        self.assertEqual(host.count(refused(NOT_OFFERED)), 1)
+        self.assertEqual(host.count(refused(NOT_OFFERED)), 2)
         self.assertTrue(host.find("anna logged in, user"))
         self.assertTrue(host.find("olav logged in, administrator"))
 

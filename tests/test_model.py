@@ -4,7 +4,7 @@
     python3 tests/test_model.py
 
 Expected values are those of 01-scope.md, REPLAY.md and 001; the sentence's place in 01 stands with each check, counted as in
-model.py.  Those of requests M-100 and M-103 of 02 are worked out by hand from their text, and the reason stands with each.
+model.py.  Those of requests M-100, M-103 and M-105 of 02 are worked out by hand from their text, and the reason stands with each.
 """
 
 import os
@@ -12,15 +12,18 @@ import random
 import sys
 import subprocess
 import unittest
+from collections import Counter
 
 import hold
 import traces
-from answers import (ALREADY_OPEN, BAD_CHECKSUM, BAD_LENGTH, BAD_RANK, KEEP_ALIVE, LOW_RANK, NO_CONNECTION, NOT_OFFERED,
-                     OUT_OF_RANGE, QUEUE_FULL, SERVED, SHORT_BUFFER, STRAY, TOO_LONG, WAITING)
+from answers import (ALREADY_OPEN, BAD_CHECKSUM, BAD_RANK, BY_NAME, ENDS_EARLY, KEEP_ALIVE, LEFT_OVER, LIST_CUT, LOW_RANK,
+                     NO_CONNECTION, NOT_OFFERED, OUT_OF_RANGE, QUEUE_FULL, SERVED, SHORT_BUFFER, STRAY, TOO_LONG, WAITING)
 from model import Box, CRC_TABLE, INPUT_IDS, PULSES, RELAY_IDS, TOP32, TOP64, crc16, field
 from mutants import MUTANTS
 
 HERE = os.path.dirname(os.path.abspath(__file__))
+
+WITH_A_PLACE = (ENDS_EARLY, LEFT_OVER, LIST_CUT)        # M-105, 2
 
 
 class Case(unittest.TestCase):
@@ -42,14 +45,15 @@ class Case(unittest.TestCase):
         self.box.collect(0, 4096)
 
     def feed(self, hexadecimal, c=0, cap=4096):
-        """Answer, taken, reply."""
+        """Answer, taken, place, reply."""
         return self.box.bytes_(c, cap, bytes.fromhex(hexadecimal))
 
     def content(self, hexadecimal, c=0, sent=0xFFFF):
         """The answer to a message with this content, and the content of the reply in hexadecimal."""
         message = traces.framed(bytes.fromhex(hexadecimal), sent)
-        answer, taken, reply = self.box.bytes_(c, 4096, message)
+        answer, taken, place, reply = self.box.bytes_(c, 4096, message)
         self.assertEqual(taken, len(message))
+        self.assertEqual(place != 0, answer in WITH_A_PLACE, "M-105, 2")
         if reply:
             self.assertEqual(reply[:1], b"\x01")
             self.assertEqual(reply[1:3], field(len(reply) - 5, 2))
@@ -58,6 +62,16 @@ class Case(unittest.TestCase):
 
     def answer(self, hexadecimal, c=0, sent=0xFFFF):
         return self.content(hexadecimal, c, sent)[0]
+
+    def told(self, hexadecimal, c=0, sent=0xFFFF):
+        """The answer to a message with this content, and the place; nothing is changed by one that is refused."""
+        before = self.box.state()
+        message = traces.framed(bytes.fromhex(hexadecimal), sent)
+        answer, taken, place, reply = self.box.bytes_(c, 4096, message)
+        self.assertEqual(taken, len(message))
+        if answer != SERVED:
+            self.assertEqual((reply, self.box.state()), (b"", before), hexadecimal)
+        return answer, place
 
     def relays(self):
         """Channel 8 to channel 1, as 01 writes them."""
@@ -130,12 +144,12 @@ class EachEdge(Case):
 
     def test_n_0_with_0xffff(self):
         """Edges, 7."""
-        self.assertEqual(self.feed("010000FFFF"), (NOT_OFFERED, 5, b""))
+        self.assertEqual(self.feed("010000FFFF"), (NOT_OFFERED, 5, 0, b""))
 
     def test_request_4_with_interval(self):
         """Edges, 8."""
         self.assertEqual(self.content("05000400000000"), (SERVED, ""))
-        self.assertEqual(self.answer("050004000000"), BAD_LENGTH)
+        self.assertEqual(self.told("050004000000"), (ENDS_EARLY, 6), "M-105, 3: a byte of the interval is missing")
 
     def test_write_flags_3_count_7(self):
         """Edges, 9."""
@@ -166,39 +180,39 @@ class EachEdge(Case):
 
     def test_n_1024_judged_1025_not(self):
         """Edges, 11."""
-        self.assertEqual(self.answer("05" + "00" * 1023), BAD_LENGTH)
+        self.assertEqual(self.told("05" + "00" * 1023), (LEFT_OVER, 7))
         self.assertEqual(self.answer("63" + "00" * 1023), NOT_OFFERED)
         self.assertEqual(self.answer("63" + "00" * 1023, sent=1), BAD_CHECKSUM)
         self.assertEqual(self.answer("63" + "00" * 1024), TOO_LONG)
 
     def test_buffer_4095(self):
         """Edges, 11."""
-        self.assertEqual(self.feed("06", cap=4095), (SHORT_BUFFER, 0, b""))
-        self.assertEqual(self.feed("06", cap=4096), (KEEP_ALIVE, 1, b""))
+        self.assertEqual(self.feed("06", cap=4095), (SHORT_BUFFER, 0, 0, b""))
+        self.assertEqual(self.feed("06", cap=4096), (KEEP_ALIVE, 1, 0, b""))
         self.assertEqual(self.box.collect(0, 4095), (SHORT_BUFFER, b""))
         self.assertEqual(self.box.collect(0, 4096), (WAITING, b""))
 
 
 class ConsoleExample(Case):
     def test_console_example(self):
-        """Console, 2 and 6: two digits for the answer, two for the relays."""
+        """Console, 2 and 6: two digits for the answer, two for the relays.  M-105, 3: the third answer is 0x14."""
         printed = []
         for line in ("010004FFFF0A0A0505", "010004FFFF0A030001", "010003FFFF0A0300", "06"):
             answer = self.feed(line)[0]
             printed.append(f"{answer:02X}{int(self.relays(), 2):02X}")
-        self.assertEqual(printed, ["0105", "0104", "0A04", "0204"])
+        self.assertEqual(printed, ["0105", "0104", "1404", "0204"])
 
 
 class ReplayPage(unittest.TestCase):
     EXAMPLE = (
         ("open 0 2", "1"),
-        ("bytes 0 4096 010004FFFF0A0A0505", "1 9 0 -"),
+        ("bytes 0 4096 010004FFFF0A0A0505", "1 9 0 0 -"),
         ("state", "C 0 I 0,0,0 0,0,0 0,0,0 0,0,0 0,0,0 0,0,0 0,0,0 0,0,0 R 1,0 0,0 1,0 0,0 0,0 0,0 0,0 0,0 "
                   "N 1,2,1,1,0,0 0,0,0,0,0,0 0,0,0,0,0,0 0,0,0,0,0,0 P 0"),
-        ("bytes 0 4095 06", "4 0 0 -"),
-        ("bytes 0 4096 0601", "2 1 0 -"),
+        ("bytes 0 4095 06", "4 0 0 0 -"),
+        ("bytes 0 4096 0601", "2 1 0 0 -"),
         ("pass 7", "1"),
-        ("bytes 0 4096 01000365FF050000", "7 8 0 -"),
+        ("bytes 0 4096 01000365FF050000", "7 8 0 0 -"),
     )
 
     def test_example(self):
@@ -220,7 +234,7 @@ class ReplayPage(unittest.TestCase):
         self.assertEqual(box.line("power " + " ".join(["0"] * 41)), "?")
         self.assertEqual(box.line("power 0 0 0 2 " + " ".join(["0"] * 36)), "?", "no alarm switch is at 2")
         self.assertEqual(box.line("bytes 0 4096 " + "06" * 100001), "?", "200,000 digits at most")
-        self.assertEqual(box.line("bytes 0 4096 " + "06" * 100000), "3 0 0 -")
+        self.assertEqual(box.line("bytes 0 4096 " + "06" * 100000), "3 0 0 0 -")
         self.assertEqual(box.state(), before)
 
     def test_numbers_handed_on(self):
@@ -229,7 +243,7 @@ class ReplayPage(unittest.TestCase):
         for line, printed in (("open 255 255", "3"), ("open 3 255", "13"), ("close 255", "3"), ("level 255 255", "11"),
                               ("pass 4294967295", "1"), ("pass 0", "1"), ("open 3 2 255", "1"), ("open 3 255", "12"),
                               ("open 255 255 255", "3"), ("open 2 255 255", "13"), ("open 2 0 0", "1"), ("open 2 0 256", "?"),
-                              ("bytes 3 65536 06", "2 1 0 -"), ("bytes 3 0 06", "4 0 0 -"), ("bytes 3 4096 -", "0 0 0 -")):
+                              ("bytes 3 65536 06", "2 1 0 0 -"), ("bytes 3 0 06", "4 0 0 0 -"), ("bytes 3 4096 -", "0 0 0 0 -")):
             self.assertEqual(box.line(line), printed, line)
 
     def test_power_settings(self):
@@ -254,7 +268,7 @@ class ReplayPage(unittest.TestCase):
             self.assertEqual(self.connection_1(box), f"1,0,1,0,{got},0")
         box.line("bytes 1 4096 01FFFF0000" + "06" * 65534)
         self.assertEqual(self.connection_1(box), f"1,0,1,0,{5 + 65535 - 1},0")
-        self.assertEqual(box.line("bytes 1 4096 0606"), "6 1 0 -")
+        self.assertEqual(box.line("bytes 1 4096 0606"), "6 1 0 0 -")
         self.assertEqual(self.connection_1(box), "1,0,1,0,0,0")
         box.line("bytes 1 4096 0100")
         box.line("close 1")
@@ -301,13 +315,13 @@ class Published(Case):
         for text in self.FRAMES:
             frame = bytes.fromhex(text)
             self.assertEqual(frame, self.box.frame(frame[5:]))
-            self.assertEqual(self.box.bytes_(0, 4096, frame + b"\x06"), (NOT_OFFERED, len(frame), b""))
+            self.assertEqual(self.box.bytes_(0, 4096, frame + b"\x06"), (NOT_OFFERED, len(frame), 0, b""))
             damaged = frame[:-1] + bytes([frame[-1] ^ 1])
-            self.assertEqual(self.box.bytes_(0, 4096, damaged), (BAD_CHECKSUM, len(frame), b""))
+            self.assertEqual(self.box.bytes_(0, 4096, damaged), (BAD_CHECKSUM, len(frame), 0, b""))
 
     def test_frame_with_0xffff(self):
         frame = "01 00 0d ff ff 7e 05 6a 6e 69 6f 72 05 6a 6e 69 6f 72"
-        self.assertEqual(self.feed(frame), (NOT_OFFERED, 18, b""))
+        self.assertEqual(self.feed(frame), (NOT_OFFERED, 18, 0, b""))
 
     def test_ids(self):
         """Messages, IDs."""
@@ -405,7 +419,7 @@ class BoxAndEvents(Case):
         self.feed("010004FFFF0A01")
         self.box.close(0)
         self.box.open(0, 2)
-        self.assertEqual(self.feed("0001"), (STRAY, 1, b""))
+        self.assertEqual(self.feed("0001"), (STRAY, 1, 0, b""))
 
     def test_collect(self):
         """Events, 5 and 7: one message for all that changed, and it shows what is so now."""
@@ -455,79 +469,80 @@ class FrameRules(Case):
         for byte in range(256):
             answer = {0x01: WAITING, 0x06: KEEP_ALIVE}.get(byte, STRAY)
             self.box.open(1, 0)
-            self.assertEqual(self.box.bytes_(1, 4096, bytes([byte, 6])), (answer, 2 if byte == 1 else 1, b""))
+            self.assertEqual(self.box.bytes_(1, 4096, bytes([byte, 6])), (answer, 2 if byte == 1 else 1, 0, b""))
             self.box.close(1)
 
     def test_nothing_begins_inside_a_frame(self):
         """Frame, 8; Mistakes, 4."""
         for byte in bytes.fromhex("010004FFFF0A0A06"):
-            self.assertEqual(self.box.bytes_(0, 4096, bytes([byte])), (WAITING, 1, b""))
-        self.assertEqual(self.feed("06"), (SERVED, 1, b""))
+            self.assertEqual(self.box.bytes_(0, 4096, bytes([byte])), (WAITING, 1, 0, b""))
+        self.assertEqual(self.feed("06"), (SERVED, 1, 0, b""))
         self.assertEqual(self.relays(), "00000110")
 
     def test_checksum_at_the_last_byte(self):
         """Mistakes, 1: not before."""
-        self.assertEqual(self.feed("0100031234050000"[:-2]), (WAITING, 7, b""))
-        self.assertEqual(self.feed("00"), (BAD_CHECKSUM, 1, b""))
+        self.assertEqual(self.feed("0100031234050000"[:-2]), (WAITING, 7, 0, b""))
+        self.assertEqual(self.feed("00"), (BAD_CHECKSUM, 1, 0, b""))
 
     def test_n_0(self):
         """Answer numbers, 1: the checksum of nothing, which is 0, is judged before the type."""
-        self.assertEqual(self.feed("0100000001"), (BAD_CHECKSUM, 5, b""))
-        self.assertEqual(self.feed("0100000000"), (NOT_OFFERED, 5, b""))
+        self.assertEqual(self.feed("0100000001"), (BAD_CHECKSUM, 5, 0, b""))
+        self.assertEqual(self.feed("0100000000"), (NOT_OFFERED, 5, 0, b""))
 
     def test_two_half_read_messages(self):
         """Mistakes, 1: each connection has its own."""
         self.box.open(1, 1)
-        self.assertEqual(self.feed("010004FFFF0A01", 0), (WAITING, 7, b""))
-        self.assertEqual(self.feed("010004FFFF0A0A", 1), (WAITING, 7, b""))
-        self.assertEqual(self.feed("0002", 0), (SERVED, 2, b""))
-        self.assertEqual(self.feed("F0F0", 1), (SERVED, 2, b""))
+        self.assertEqual(self.feed("010004FFFF0A01", 0), (WAITING, 7, 0, b""))
+        self.assertEqual(self.feed("010004FFFF0A0A", 1), (WAITING, 7, 0, b""))
+        self.assertEqual(self.feed("0002", 0), (SERVED, 2, 0, b""))
+        self.assertEqual(self.feed("F0F0", 1), (SERVED, 2, 0, b""))
         self.assertEqual(self.relays(), "11110010")
 
     def test_taken_through_the_end(self):
         """Frame, 11."""
-        self.assertEqual(self.feed("010004FFFF0A01000106"), (SERVED, 9, b""))
-        self.assertEqual(self.feed(""), (WAITING, 0, b""))
-        self.assertEqual(self.feed("", cap=4095), (SHORT_BUFFER, 0, b""))
-        self.assertEqual(self.feed("", 1, 0), (NO_CONNECTION, 0, b""))
+        self.assertEqual(self.feed("010004FFFF0A01000106"), (SERVED, 9, 0, b""))
+        self.assertEqual(self.feed(""), (WAITING, 0, 0, b""))
+        self.assertEqual(self.feed("", cap=4095), (SHORT_BUFFER, 0, 0, b""))
+        self.assertEqual(self.feed("", 1, 0), (NO_CONNECTION, 0, 0, b""))
 
     def test_above_the_limit(self):
         """Frame, 12: nothing is said before the last byte, and rank and checksum do not matter."""
         self.box.open(1, 0)
         for c in (0, 1):
-            self.assertEqual(self.feed("01FFFF0000", c), (WAITING, 5, b""))
-            self.assertEqual(self.feed("01" * 65534, c), (WAITING, 65534, b""))
-            self.assertEqual(self.feed("0606", c), (TOO_LONG, 1, b""))
-            self.assertEqual(self.feed("06", c), (KEEP_ALIVE, 1, b""))
+            self.assertEqual(self.feed("01FFFF0000", c), (WAITING, 5, 0, b""))
+            self.assertEqual(self.feed("01" * 65534, c), (WAITING, 65534, 0, b""))
+            self.assertEqual(self.feed("0606", c), (TOO_LONG, 1, 0, b""))
+            self.assertEqual(self.feed("06", c), (KEEP_ALIVE, 1, 0, b""))
 
     def test_refused_clears_the_half_read_message(self):
-        """Answer numbers, lines 7 to 11."""
-        for message, answer in (("0100031234050000", BAD_CHECKSUM), ("010001FFFF63", NOT_OFFERED), ("010001FFFF05", BAD_LENGTH),
-                                ("010003FFFF050003", OUT_OF_RANGE)):
-            self.assertEqual(self.feed(message), (answer, len(message) // 2, b""))
+        """Answer numbers, lines 7 to 11, and M-105, 4."""
+        for message, answer, place in (("0100031234050000", BAD_CHECKSUM, 0), ("010001FFFF63", NOT_OFFERED, 0),
+                                       ("010001FFFF05", ENDS_EARLY, 1), ("010003FFFF1A0100", LEFT_OVER, 2),
+                                       ("010003FFFF150001", LIST_CUT, 3), ("010003FFFF050003", OUT_OF_RANGE, 0)):
+            self.assertEqual(self.feed(message), (answer, len(message) // 2, place, b""))
             self.assertEqual(self.box.got(self.box.connections[0]), 0)
 
     def test_order_of_checks(self):
         """Answer numbers, 1."""
         self.box.open(1, 0)
         self.box.open(2, 1)
-        self.assertEqual(self.feed("05", 4, 0), (NO_CONNECTION, 0, b""))
-        self.assertEqual(self.feed("05", 3, 0), (NO_CONNECTION, 0, b""))
-        self.assertEqual(self.feed("05", 0, 0), (SHORT_BUFFER, 0, b""))
+        self.assertEqual(self.feed("05", 4, 0), (NO_CONNECTION, 0, 0, b""))
+        self.assertEqual(self.feed("05", 3, 0), (NO_CONNECTION, 0, 0, b""))
+        self.assertEqual(self.feed("05", 0, 0), (SHORT_BUFFER, 0, 0, b""))
         self.assertEqual(self.answer("63", 1, sent=1), BAD_CHECKSUM)
         self.assertEqual(self.answer("63", 1), NOT_OFFERED)
         self.assertEqual(self.answer("05", 1), LOW_RANK)
         self.assertEqual(self.answer("07", 2), LOW_RANK)
-        self.assertEqual(self.answer("07", 0), BAD_LENGTH)
-        self.assertEqual(self.answer("1A", 0), BAD_LENGTH)
-        self.assertEqual(self.answer("1A0000", 0), BAD_LENGTH)
+        self.assertEqual(self.told("07", 0), (ENDS_EARLY, 1))
+        self.assertEqual(self.told("1A", 0), (ENDS_EARLY, 1))
+        self.assertEqual(self.told("1A0000", 0), (LEFT_OVER, 2))
         self.assertEqual(self.answer("1A00", 0), OUT_OF_RANGE)
 
     def test_types(self):
         """Six are offered; the others, Monitor among them (Messages, 1, 2), are not."""
         for kind in range(256):
-            answer = self.answer(f"{kind:02X}")
-            self.assertEqual(answer, BAD_LENGTH if kind in (5, 7, 10, 21, 23, 26) else NOT_OFFERED, kind)
+            told = (ENDS_EARLY, 1) if kind in (5, 7, 10, 21, 23, 26) else (NOT_OFFERED, 0)
+            self.assertEqual(self.told(f"{kind:02X}"), told, kind)
 
 
 class Messages(Case):
@@ -577,8 +592,9 @@ class Messages(Case):
         """Messages, 5, 6; Answer numbers, 2: a request that is there whole is judged before the length."""
         for content in ("050003", "050006", "050100", "05FFFF", "05000300", "0500030000000000"):
             self.assertEqual(self.answer(content), OUT_OF_RANGE, content)
-        for content in ("05", "0500", "05000000", "0500000000000000"):
-            self.assertEqual(self.answer(content), BAD_LENGTH, content)
+        for content, told in (("05", (ENDS_EARLY, 1)), ("0500", (ENDS_EARLY, 2)), ("05000000", (ENDS_EARLY, 4)),
+                              ("0500000000000000", (LEFT_OVER, 7))):
+            self.assertEqual(self.told(content), told, content)
 
     def test_set_clock(self):
         """Messages, 7, 1; Mistakes, 3: no usage changes with it."""
@@ -586,8 +602,8 @@ class Messages(Case):
         self.box.pass_(5)
         self.assertEqual(self.content("07FFFFFFFFFFFFFFFF"), (SERVED, ""))
         self.assertEqual((self.box.clock, self.box.inputs[0].usage), (TOP64, 5))
-        for content in ("0700000000000000", "07000000000000000000"):
-            self.assertEqual(self.answer(content), BAD_LENGTH)
+        self.assertEqual(self.told("0700000000000000"), (ENDS_EARLY, 8))
+        self.assertEqual(self.told("07000000000000000000"), (LEFT_OVER, 9))
         self.assertEqual(self.box.clock, TOP64)
 
     def test_commands(self):
@@ -608,8 +624,10 @@ class Messages(Case):
         for content in ("0A04", "0A00", "0A0B", "0AFF", "0A040001", "0A04000100000001", "0A010000", "0A010009", "0A010101",
                         "0A01FFFF"):
             self.assertEqual(self.answer(content), OUT_OF_RANGE, content)
-        for content in ("0A", "0A01", "0A0100", "0A01000100", "0A010000FF", "0A0AFF", "0A0A00FF00FF"):
-            self.assertEqual(self.answer(content), BAD_LENGTH, content)
+        for content, told in (("0A", (ENDS_EARLY, 1)), ("0A01", (ENDS_EARLY, 2)), ("0A0100", (ENDS_EARLY, 3)),
+                              ("0A0AFF", (ENDS_EARLY, 3)), ("0A01000100", (LEFT_OVER, 4)), ("0A010000FF", (LEFT_OVER, 4)),
+                              ("0A0A00FF00FF", (LEFT_OVER, 4))):
+            self.assertEqual(self.told(content), told, content)
         self.assertEqual(self.relays(), "00000000")
 
     def test_read_devices(self):
@@ -626,13 +644,15 @@ class Messages(Case):
         self.assertEqual(self.content("150004" + two + none + one + two),
                          (SERVED, "160004" + two + "000A" + relay + none + "0000" + one + "0011" + block + two + "000A" + relay))
         self.assertEqual(self.content("150000"), (SERVED, "160000"))
-        for content in ("15", "1500", "150001", "150000" + one, "150001" + one + "00", "150001" + one[2:], "150002" + one):
-            self.assertEqual(self.answer(content), BAD_LENGTH, content)
+        for content, told in (("15", (ENDS_EARLY, 1)), ("1500", (ENDS_EARLY, 2)), ("150001", (LIST_CUT, 3)),
+                              ("150000" + one, (LEFT_OVER, 3)), ("150001" + one + "00", (LEFT_OVER, 11)),
+                              ("150001" + one[2:], (LIST_CUT, 10)), ("150002" + one, (LIST_CUT, 11))):
+            self.assertEqual(self.told(content), told, content)
 
     def test_longest_reply(self):
         """Frame, 15."""
-        answer, taken, reply = self.box.bytes_(0, 4096, traces.framed(b"\x15\x00\x7F" + field(INPUT_IDS[0], 8) * 127))
-        self.assertEqual((answer, taken, len(reply)), (SERVED, 5 + 3 + 127 * 8, 3437))
+        answer, taken, place, reply = self.box.bytes_(0, 4096, traces.framed(b"\x15\x00\x7F" + field(INPUT_IDS[0], 8) * 127))
+        self.assertEqual((answer, taken, place, len(reply)), (SERVED, 5 + 3 + 127 * 8, 0, 3437))
 
     def test_write_devices(self):
         """Messages, 23, 3 and 6; Mistakes, 2 and 5: a bad entry neither undoes the ones before it nor stops the next."""
@@ -645,9 +665,12 @@ class Messages(Case):
     def test_write_must_fit(self):
         """Messages, 23, 2: where the last entry does not fit, the first is not written either."""
         entry = "00000000000101FF00020101"
-        for content in ("17", "1700", "170001", "170000" + entry, "170001" + entry + "00", "170002" + entry,
-                        "170001" + entry[:-2], "170002" + entry + entry[:-2], "170002" + entry + "00000000000101FFFFFF0101"):
-            self.assertEqual(self.answer(content), BAD_LENGTH, content)
+        for content, told in (("17", (ENDS_EARLY, 1)), ("1700", (ENDS_EARLY, 2)), ("170001", (LIST_CUT, 3)),
+                              ("170000" + entry, (LEFT_OVER, 3)), ("170001" + entry + "00", (LEFT_OVER, 15)),
+                              ("170002" + entry, (LIST_CUT, 15)), ("170001" + entry[:-2], (LIST_CUT, 14)),
+                              ("170002" + entry + entry[:-2], (LIST_CUT, 26)),
+                              ("170002" + entry + "00000000000101FFFFFF0101", (LIST_CUT, 27))):
+            self.assertEqual(self.told(content), told, content)
         self.assertEqual(self.relays(), "00000000")
         self.assertEqual(self.answer("170001" + entry), SERVED)
         self.assertEqual(self.relays(), "00000001")
@@ -960,16 +983,15 @@ class Pulses(Case):
         refused = ((OUT_OF_RANGE, ("0A04", "0A0400010000000100", "0A06000900000001", "0A06000000000001", "0A06010100000001",
                                    "0A06FFFF00000001", "0A06000100000000", "0A06000900000000", "0A07FFFF00000000",
                                    "0A07000000000000")),
-                   (BAD_LENGTH, ("0A06", "0A07", "0A060001", "0A060001000000", "0A060009000000", "0A0600010000000000",
-                                 "0A0600090000000100", "0A07FFFF000000", "0A07FFFF0000000100", "0A0700FF00FF00000001")))
+                   (ENDS_EARLY, ("0A06", "0A07", "0A060001", "0A060001000000", "0A060009000000", "0A07FFFF000000")),
+                   (LEFT_OVER, ("0A0600010000000000", "0A0600090000000100", "0A07FFFF0000000100", "0A0700FF00FF00000001")))
         for fill, right in ((False, SERVED), (True, QUEUE_FULL)):
             if fill:
                 self.power()
                 self.fill()
             for content, answer in [(content, answer) for answer, contents in refused for content in contents]:
-                before = self.box.state()
-                self.assertEqual(self.content(content), (answer, ""), content)
-                self.assertEqual(self.box.state(), before)
+                place = {ENDS_EARLY: len(content) // 2, LEFT_OVER: 8}.get(answer, 0)
+                self.assertEqual(self.told(content), (answer, place), content)
             self.assertEqual((self.pulse(1, 1), self.block(0xFF, 0, 1)), (right, right))
 
     def test_rank(self):
@@ -1000,21 +1022,21 @@ class Pulses(Case):
         before = self.box.state()
         for row in (0, 1, 30):
             for piece in (message, message[:3], b"\x06", b"\x00", b""):
-                self.assertEqual(self.box.bytes_(0, 4096, piece, row), (SHORT_BUFFER, 0, b""))
-                self.assertEqual(self.box.bytes_(0, 4095, piece, row), (SHORT_BUFFER, 0, b""))
-                self.assertEqual(self.box.bytes_(1, 4096, piece, row), (NO_CONNECTION, 0, b""))
-                self.assertEqual(self.box.bytes_(4, 0, piece, row), (NO_CONNECTION, 0, b""))
+                self.assertEqual(self.box.bytes_(0, 4096, piece, row), (SHORT_BUFFER, 0, 0, b""))
+                self.assertEqual(self.box.bytes_(0, 4095, piece, row), (SHORT_BUFFER, 0, 0, b""))
+                self.assertEqual(self.box.bytes_(1, 4096, piece, row), (NO_CONNECTION, 0, 0, b""))
+                self.assertEqual(self.box.bytes_(4, 0, piece, row), (NO_CONNECTION, 0, 0, b""))
         self.assertEqual(self.box.state(), before)
         for row in (31, 32, 64):
-            self.assertEqual(self.box.bytes_(0, 4095, message, row), (SHORT_BUFFER, 0, b""))
-            self.assertEqual(self.box.bytes_(0, 4096, message, row), (SERVED, 13, b""))
+            self.assertEqual(self.box.bytes_(0, 4095, message, row), (SHORT_BUFFER, 0, 0, b""))
+            self.assertEqual(self.box.bytes_(0, 4096, message, row), (SERVED, 13, 0, b""))
         self.assertEqual(self.queue(), "3 1,1,5 1,1,5 1,1,5 was 0")
 
     def test_rows_in_replay_lines(self):
         for line, printed in (("pass 1 30", "4"), ("pass 1 31", "1"), ("pass 1 64", "1"), ("pass 1 65", "?"),
-                              ("bytes 0 4096 06 30", "4 0 0 -"), ("bytes 1 4096 06 30", "3 0 0 -"),
-                              ("bytes 0 4096 06 31", "2 1 0 -"), ("bytes 0 4096 06 32", "2 1 0 -"),
-                              ("bytes 0 4096 06 64", "2 1 0 -"), ("bytes 0 4096 06 65", "?"), ("bytes 0 4096 - 0", "4 0 0 -")):
+                              ("bytes 0 4096 06 30", "4 0 0 0 -"), ("bytes 1 4096 06 30", "3 0 0 0 -"),
+                              ("bytes 0 4096 06 31", "2 1 0 0 -"), ("bytes 0 4096 06 32", "2 1 0 0 -"),
+                              ("bytes 0 4096 06 64", "2 1 0 0 -"), ("bytes 0 4096 06 65", "?"), ("bytes 0 4096 - 0", "4 0 0 0 -")):
             self.assertEqual(self.box.line(line), printed, line)
         self.assertEqual(self.box.clock, 2)
 
@@ -1049,14 +1071,14 @@ class Strict(Case):
             unchecked = frame[:3] + b"\xFF\xFF" + frame[5:]
             for c, answers in ((0, (NOT_OFFERED, NOT_OFFERED)), (1, (NOT_OFFERED, BAD_CHECKSUM))):
                 for message, answer in zip((frame, unchecked), answers):
-                    self.assertEqual(self.box.bytes_(c, 4096, message + b"\x06"), (answer, len(frame), b""))
+                    self.assertEqual(self.box.bytes_(c, 4096, message + b"\x06"), (answer, len(frame), 0, b""))
 
     def test_refused_and_then_served(self):
         """What is refused has changed nothing, and the next message is read from its start."""
         before = self.box.state()
         self.assertEqual(self.content("0A0A0505", 1), (BAD_CHECKSUM, ""))
         self.assertEqual(self.box.state(), before)
-        self.assertEqual(self.feed("01000489E00A0A0505", 1), (SERVED, 9, b""), "0x89E0 by 001's rule, a bit at a time")
+        self.assertEqual(self.feed("01000489E00A0A0505", 1), (SERVED, 9, 0, b""), "0x89E0 by 001's rule, a bit at a time")
         self.assertEqual(self.relays(), "00000101")
 
     def test_every_type(self):
@@ -1090,21 +1112,21 @@ class Strict(Case):
     def test_n_0(self):
         """No bytes have the checksum 0.  Edges, 7 holds of the connection that is not strict."""
         for sent, c, answer in (("FFFF", 1, BAD_CHECKSUM), ("FFFF", 0, NOT_OFFERED), ("0000", 1, NOT_OFFERED), ("0001", 1, BAD_CHECKSUM)):
-            self.assertEqual(self.feed("010000" + sent, c), (answer, 5, b""))
+            self.assertEqual(self.feed("010000" + sent, c), (answer, 5, 0, b""))
 
     def test_old_place(self):
         """After what is lent and the limit, before type, rank, length and numbers."""
         self.box.open(2, 0, 1)
         frame = traces.framed(bytes.fromhex("0A030001"), 0xFFFF)
-        self.assertEqual(self.box.bytes_(1, 4095, frame), (SHORT_BUFFER, 0, b""))
-        self.assertEqual(self.box.bytes_(1, 4096, frame, 30), (SHORT_BUFFER, 0, b""))
+        self.assertEqual(self.box.bytes_(1, 4095, frame), (SHORT_BUFFER, 0, 0, b""))
+        self.assertEqual(self.box.bytes_(1, 4096, frame, 30), (SHORT_BUFFER, 0, 0, b""))
         self.assertEqual(self.answer("63" + "00" * 1024, 1), TOO_LONG)
         self.assertEqual(self.answer("63" + "00" * 1023, 1), BAD_CHECKSUM)
         for content, answer in (("63", NOT_OFFERED), ("0A030001", LOW_RANK)):
             self.assertEqual((self.answer(content, 2), self.true(content, 2)), (BAD_CHECKSUM, answer))
-        for content, answer in (("0A0300", BAD_LENGTH), ("0A030009", OUT_OF_RANGE)):
+        for content, answer in (("0A0300", ENDS_EARLY), ("0A030009", OUT_OF_RANGE)):
             self.assertEqual((self.answer(content, 1), self.true(content, 1)), (BAD_CHECKSUM, answer))
-        self.assertEqual((self.feed("06", 1), self.feed("07", 1)), ((KEEP_ALIVE, 1, b""), (STRAY, 1, b"")))
+        self.assertEqual((self.feed("06", 1), self.feed("07", 1)), ((KEEP_ALIVE, 1, 0, b""), (STRAY, 1, 0, b"")))
 
     def test_full_queue(self):
         """The last refusal of all: 0xFFFF is refused before it, and the true checksum comes so far."""
@@ -1116,12 +1138,12 @@ class Strict(Case):
         """Nothing is said before the last byte; the other connection is served in between."""
         frame = bytes.fromhex("010004FFFF0A030001")
         for middle in range(1, len(frame)):
-            self.assertEqual(self.box.bytes_(1, 4096, frame[:middle]), (WAITING, middle, b""))
-            self.assertEqual(self.box.bytes_(0, 4096, frame), (SERVED, 9, b""))
-            self.assertEqual(self.box.bytes_(1, 4096, frame[middle:]), (BAD_CHECKSUM, 9 - middle, b""))
-            self.assertEqual(self.box.bytes_(0, 4096, frame[:middle]), (WAITING, middle, b""))
-            self.assertEqual(self.box.bytes_(1, 4096, frame), (BAD_CHECKSUM, 9, b""))
-            self.assertEqual(self.box.bytes_(0, 4096, frame[middle:]), (SERVED, 9 - middle, b""))
+            self.assertEqual(self.box.bytes_(1, 4096, frame[:middle]), (WAITING, middle, 0, b""))
+            self.assertEqual(self.box.bytes_(0, 4096, frame), (SERVED, 9, 0, b""))
+            self.assertEqual(self.box.bytes_(1, 4096, frame[middle:]), (BAD_CHECKSUM, 9 - middle, 0, b""))
+            self.assertEqual(self.box.bytes_(0, 4096, frame[:middle]), (WAITING, middle, 0, b""))
+            self.assertEqual(self.box.bytes_(1, 4096, frame), (BAD_CHECKSUM, 9, 0, b""))
+            self.assertEqual(self.box.bytes_(0, 4096, frame[middle:]), (SERVED, 9 - middle, 0, b""))
         self.assertEqual(self.relays(), "00000000", "relay 1 toggled 16 times")
 
     def test_what_says_strict(self):
@@ -1158,7 +1180,284 @@ class Strict(Case):
         self.feed("010004FFFF0A03", 1)
         self.box.close(1)
         self.box.open(1, 2)
-        self.assertEqual(self.feed("010004FFFF0A030001", 1), (SERVED, 9, b""))
+        self.assertEqual(self.feed("010004FFFF0A030001", 1), (SERVED, 9, 0, b""))
+
+
+class Lengths(Case):
+    """02, M-105.  A place is counted from the type byte, which is at 0."""
+
+    ONE, TWO = "00000000000001FF", "00000000000101FF"           # input 1 and relay 1
+    CLOSE = TWO + "0002" + "0101"                               # an entry of 12 bytes
+    COUNT = ONE + "0005" + "0200000007"                         # one of 15
+    NOBODY = "00000000000009FF" + "0000"                        # one of 10, without a block
+
+    def lengths_of(self, content, lists_from=None):
+        """Each length of a content that is served whole, from nothing to three bytes too many, and more.  From `lists_from` on it lacks a
+        part of a list whose count is whole, before that something else."""
+        whole = len(content) // 2
+        self.assertEqual(self.told(""), (NOT_OFFERED, 0))
+        for n in range(1, whole):
+            in_list = lists_from is not None and n >= lists_from
+            self.assertEqual(self.told(content[:2 * n]), (LIST_CUT if in_list else ENDS_EARLY, n), content[:2 * n])
+        self.assertEqual(self.told(content), (SERVED, 0), content)
+        for surplus in ("00", "FFFF", "010101", "00000000", "FF" * 8, content, "00" * (1024 - whole)):
+            self.assertEqual(self.told(content + surplus), (LEFT_OVER, whole), content + surplus)
+
+    # -- each length of each type ------------------------------------------------------------------
+
+    def test_request(self):
+        """Three bytes, or seven: nothing between them is whole, and only what is behind the seventh is too many."""
+        for request in ("0000", "0001", "0002", "0004", "0005"):
+            content = "05" + request + "01060106"
+            for n, told in ((0, (NOT_OFFERED, 0)), (1, (ENDS_EARLY, 1)), (2, (ENDS_EARLY, 2)), (3, (SERVED, 0)), (4, (ENDS_EARLY, 4)),
+                            (5, (ENDS_EARLY, 5)), (6, (ENDS_EARLY, 6)), (7, (SERVED, 0))):
+                self.assertEqual(self.told(content[:2 * n]), told, (request, n))
+            for surplus in ("00", "0000", "000000", "00000000", "00" * 1017):
+                self.assertEqual(self.told(content + surplus), (LEFT_OVER, 7), (request, len(surplus)))
+
+    def test_request_out_of_range(self):
+        """Answer numbers, 2: judged as soon as its second byte is there, whatever the length."""
+        for request in ("0003", "0006", "0100", "FFFF"):
+            content = "05" + request + "00" * 7
+            self.assertEqual([self.told(content[:2 * n]) for n in range(1, 11)],
+                             [(ENDS_EARLY, 1), (ENDS_EARLY, 2)] + [(OUT_OF_RANGE, 0)] * 8)
+
+    def test_set_clock(self):
+        self.lengths_of("07" + "0000000000000005")
+
+    def test_commands_of_four_bytes(self):
+        for action in ("01", "02", "03", "05", "08", "09", "0A"):
+            self.lengths_of("0A" + action + "0001")
+
+    def test_commands_of_eight_bytes(self):
+        for action in ("06", "07"):
+            self.lengths_of("0A" + action + "0001" + "00000001")
+
+    def test_action_out_of_range(self):
+        """Answer numbers, 2: judged as soon as it is there, whatever the length."""
+        for action in ("00", "04", "0B", "FF"):
+            content = "0A" + action + "00" * 9
+            self.assertEqual([self.told(content[:2 * n]) for n in range(1, 12)], [(ENDS_EARLY, 1)] + [(OUT_OF_RANGE, 0)] * 10)
+
+    def test_channel_and_duration_out_of_range(self):
+        """M-105, 4: they are judged behind the length, where the layout has them whole."""
+        for content in ("0A010009", "0A030000", "0A06000900000001", "0A06000100000000", "0A07FFFF00000000"):
+            whole = len(content) // 2
+            for n in range(1, whole):
+                self.assertEqual(self.told(content[:2 * n]), (ENDS_EARLY, n), content[:2 * n])
+            self.assertEqual(self.told(content), (OUT_OF_RANGE, 0))
+            self.assertEqual(self.told(content + "00"), (LEFT_OVER, whole))
+
+    def test_read_devices(self):
+        """The count is at 1 and 2; the first ID is missing from 3 on."""
+        self.lengths_of("150000")
+        self.lengths_of("150001" + self.ONE, 3)
+        self.lengths_of("150002" + self.ONE + self.TWO, 3)
+        self.lengths_of("150005" + self.ONE * 5, 3)
+
+    def test_write_devices(self):
+        """Within an entry's ID, length or block, and between two: all of it is the list."""
+        self.lengths_of("170000")
+        self.lengths_of("170001" + self.CLOSE, 3)
+        self.lengths_of("170001" + self.NOBODY, 3)
+        self.lengths_of("170002" + self.CLOSE + self.COUNT, 3)
+        self.lengths_of("170002" + self.COUNT + self.NOBODY, 3)
+        self.lengths_of("170003" + self.NOBODY + self.COUNT + self.CLOSE, 3)
+
+    def test_enumerate_devices(self):
+        self.lengths_of("1A01")
+
+    def test_enumeration_flags_out_of_range(self):
+        """M-105, 4: there the length is judged before the flags."""
+        for flags, whole in (("01", (SERVED, 0)), ("00", (OUT_OF_RANGE, 0)), ("04", (OUT_OF_RANGE, 0)), ("FF", (OUT_OF_RANGE, 0))):
+            content = "1A" + flags + "000000"
+            self.assertEqual([self.told(content[:2 * n]) for n in range(6)],
+                             [(NOT_OFFERED, 0), (ENDS_EARLY, 1), whole, (LEFT_OVER, 2), (LEFT_OVER, 2), (LEFT_OVER, 2)])
+
+    # -- single places -----------------------------------------------------------------------------
+
+    def test_one_id_and_a_half(self):
+        """3 bytes, 8 and 4 of two IDs."""
+        self.assertEqual(self.told("150002" + self.ONE + self.TWO[:8]), (LIST_CUT, 15))
+
+    def test_count_0_with_bytes_behind(self):
+        """There is no list to be cut: what follows is too many from its first byte on."""
+        for behind in ("00", self.ONE, self.CLOSE, "00" * 1021):
+            for kind in ("15", "17"):
+                self.assertEqual(self.told(kind + "0000" + behind), (LEFT_OVER, 3))
+
+    def test_list_of_which_no_byte_is_there(self):
+        """The count is whole, however much it says."""
+        for count in ("0001", "0002", "0080", "0100", "2000", "8000", "FFFF"):
+            for kind in ("15", "17"):
+                self.assertEqual(self.told(kind + count), (LIST_CUT, 3))
+                self.assertEqual(self.told(kind + count[:2]), (ENDS_EARLY, 2))
+
+    def test_count_above_what_a_content_holds(self):
+        """127 IDs are 1,019 bytes; with 128 the content would be 1,027 long, and ends before."""
+        self.assertEqual(self.told("15007F" + self.ONE * 127), (SERVED, 0))
+        self.assertEqual(self.told("150080" + self.ONE * 127), (LIST_CUT, 1019))
+        self.assertEqual(self.told("150080" + self.ONE * 127 + self.ONE[:10]), (LIST_CUT, 1024))
+        self.assertEqual(self.told("15007F" + self.ONE * 127 + self.ONE[:10]), (LEFT_OVER, 1019))
+        self.assertEqual(self.told("15007E" + self.ONE * 127), (LEFT_OVER, 1011))
+        self.assertEqual(self.told("158001" + self.ONE), (LIST_CUT, 11), "0x8001 times 8 is more than 16 bits, and not 8")
+
+    def test_each_cut_of_the_second_entry(self):
+        """The first entry ends at 15: ID up to 23, length up to 25, block up to 30."""
+        content = "170002" + self.CLOSE + self.COUNT
+        for n in (15, 16, 22, 23, 24, 25, 26, 29):
+            self.assertEqual(self.told(content[:2 * n]), (LIST_CUT, n))
+        self.assertEqual(self.relays(), "00000000", "Messages, 23, 2: not even the first is written")
+        self.assertEqual(self.told(content), (SERVED, 0))
+        self.assertEqual((self.relays(), self.count()), ("00000001", 7))
+
+    def test_where_the_last_entry_ended(self):
+        """Entries of 12, 15 and 10 bytes: what is behind the counted ones is too many, be it a whole entry."""
+        entries = self.CLOSE + self.COUNT + self.NOBODY
+        for count, end in (("0000", 3), ("0001", 15), ("0002", 30)):
+            self.assertEqual(self.told("17" + count + entries), (LEFT_OVER, end))
+        self.assertEqual(self.told("170003" + entries), (SERVED, 0))
+        self.assertEqual(self.told("170003" + entries + "00" * 984), (LEFT_OVER, 40), "1,024 bytes in all")
+        self.assertEqual(self.told("170004" + entries), (LIST_CUT, 40))
+
+    def test_a_length_that_reaches_over_the_end(self):
+        """A block that is said to be longer than the content is cut at its end, however much is missing; behind one that is said to be
+        shorter, and was the last, the rest is too many."""
+        for length, told in (("0003", (LIST_CUT, 15)), ("0100", (LIST_CUT, 15)), ("8002", (LIST_CUT, 15)), ("FFFF", (LIST_CUT, 15)),
+                             ("0002", (SERVED, 0)), ("0001", (LEFT_OVER, 14)), ("0000", (LEFT_OVER, 13))):
+            self.assertEqual(self.told("170001" + self.TWO + length + "0000"), told, length)
+        self.assertEqual(self.told("170002" + self.TWO + "0001" + "0000" + self.TWO + "0000"), (LIST_CUT, 25),
+                         "the second entry begins at 14 and finds 0xFF00 for its length")
+
+    def test_longest_contents(self):
+        """1,024 bytes are judged, and a place may be as far as their end."""
+        block = "00" * (1024 - 3 - 10)
+        self.assertEqual(self.told("170001" + self.ONE + "03F3" + block), (SERVED, 0))
+        self.assertEqual(self.told("170001" + self.ONE + "03F4" + block), (LIST_CUT, 1024))
+        self.assertEqual(self.told("170001" + self.ONE + "03F2" + block), (LEFT_OVER, 1023))
+        self.assertEqual(self.told("170001" + self.ONE + "03F3" + block[2:]), (LIST_CUT, 1023))
+        self.assertEqual(self.told("170001" + self.ONE + "03F3" + block + "00"), (TOO_LONG, 0))
+
+    # -- the place goes with these answers alone ---------------------------------------------------
+
+    WRONG = (("010003FFFF0A0300", (ENDS_EARLY, 8, 3, b"")), ("010008FFFF0500010000000000", (LEFT_OVER, 13, 7, b"")),
+             ("010003FFFF150001", (LIST_CUT, 8, 3, b"")))
+
+    def test_place_is_told_once(self):
+        """Behind each of them every other answer has 0, on the same connection and on another."""
+        self.box.open(1, 0)
+        self.box.open(2, 2, 1)
+        long = "010401FFFF" + "00" * 1025
+        after = (("", 0, 4096, WAITING, 0), ("06", 0, 4096, KEEP_ALIVE, 1), ("06", 3, 4096, NO_CONNECTION, 0),
+                 ("06", 4, 4096, NO_CONNECTION, 0), ("06", 0, 4095, SHORT_BUFFER, 0), ("07", 0, 4096, STRAY, 1),
+                 (long, 0, 4096, TOO_LONG, 1030), ("0100031234050000", 0, 4096, BAD_CHECKSUM, 8),
+                 ("010003FFFF050000", 2, 4096, BAD_CHECKSUM, 8), ("010000FFFF", 0, 4096, NOT_OFFERED, 5),
+                 ("010001FFFF63", 0, 4096, NOT_OFFERED, 6), ("010003FFFF050000", 1, 4096, LOW_RANK, 8),
+                 ("010003FFFF050003", 0, 4096, OUT_OF_RANGE, 8), ("010004FFFF0A030001", 0, 4096, SERVED, 9),
+                 ("010003FFFF0A", 1, 4096, WAITING, 6))
+        for wrong, told in self.WRONG:
+            for piece, c, cap, answer, taken in after:
+                self.assertEqual(self.feed(wrong), told)
+                self.assertEqual(self.feed(piece, c, cap), (answer, taken, 0, b""), (wrong, piece[:20]))
+            self.box.close(1)
+            self.box.open(1, 0)
+
+    def test_place_and_a_new_opening(self):
+        for wrong, told in self.WRONG:
+            self.assertEqual(self.feed(wrong), told)
+            self.assertEqual((self.box.close(0), self.box.open(0, 2)), (SERVED, SERVED))
+            self.assertEqual(self.feed("06"), (KEEP_ALIVE, 1, 0, b""))
+
+    def test_reply_behind_a_place(self):
+        for wrong, told in self.WRONG:
+            self.assertEqual(self.feed(wrong), told)
+            self.assertEqual(self.feed("010003FFFF050000")[:3], (SERVED, 8, 0))
+
+    def test_one_place_behind_another(self):
+        """Each message has its own."""
+        for _ in range(2):
+            for wrong, told in self.WRONG + self.WRONG[::-1]:
+                self.assertEqual(self.feed(wrong), told)
+
+    def test_full_queue_behind_a_place(self):
+        for _ in range(31):
+            self.answer("0A06000100000001")
+        for wrong, told in self.WRONG:
+            self.assertEqual(self.feed(wrong), told)
+            self.assertEqual(self.told("0A06000100000001"), (QUEUE_FULL, 0))
+
+    def test_cut_into_pieces(self):
+        """The place is one of the content, in however many pieces that comes: nothing is told before its last byte."""
+        for wrong, told in self.WRONG:
+            answer, _, place, _ = told
+            for byte in bytes.fromhex(wrong)[:-1]:
+                self.assertEqual(self.box.bytes_(0, 4096, bytes([byte])), (WAITING, 1, 0, b""))
+            self.assertEqual(self.feed(wrong[-2:] + "06"), (answer, 1, place, b""))
+            self.assertEqual(self.feed("06"), (KEEP_ALIVE, 1, 0, b""), "neither waits for the missing byte nor leaves the surplus one")
+
+    def test_what_follows_in_the_piece(self):
+        """Missing bytes are not taken from behind the content, and surplus ones are not left for the next message."""
+        for wrong, told in self.WRONG:
+            self.assertEqual(self.feed(wrong + "010004FFFF0A030001"), told)
+            self.assertEqual(self.feed("010004FFFF0A030001"), (SERVED, 9, 0, b""))
+
+    # -- where they stand --------------------------------------------------------------------------
+
+    def test_before_and_behind(self):
+        """M-105, 4: behind the checksum, the type and the rank, whose answers have no place."""
+        self.box.open(1, 0)
+        self.box.open(2, 1)
+        for wrong in ("0A0300", "0500010000000000", "150001", "1A", "1A0000", "17000000"):
+            self.assertEqual(self.told(wrong, 0, 1), (BAD_CHECKSUM, 0))
+            self.assertEqual(self.told("63" + wrong[2:]), (NOT_OFFERED, 0))
+            self.assertEqual(self.told(wrong, 1), (LOW_RANK, 0))
+            self.assertIn(self.told(wrong, 2)[0], WITH_A_PLACE)
+            self.assertEqual(self.told(wrong, 2), self.told(wrong, 0), "to users and administrators alike")
+        for wrong in ("07", "0700000000000000", "07000000000000000000"):
+            self.assertEqual((self.told(wrong, 1), self.told(wrong, 2)), ((LOW_RANK, 0), (LOW_RANK, 0)))
+            self.assertIn(self.told(wrong, 0)[0], WITH_A_PLACE)
+
+    def test_full_queue(self):
+        """M-100, 7: the length is judged before it."""
+        for _ in range(31):
+            self.answer("0A06000100000001")
+        for content, told in (("0A060001000000", (ENDS_EARLY, 7)), ("0A0600010000000100", (LEFT_OVER, 8)), ("0A0600", (ENDS_EARLY, 3)),
+                              ("0A06000100000001", (QUEUE_FULL, 0))):
+            self.assertEqual(self.told(content), told)
+
+    # -- everywhere --------------------------------------------------------------------------------
+
+    def test_10_is_never_given(self):
+        """M-105, 1: nor has it a name.  M-105, 2: what is missing is behind the content's last byte; what is too many is before its end,
+        and behind the type and one more byte at least."""
+        self.assertNotIn(10, BY_NAME.values())
+        judged = []
+
+        class Remembering(Box):
+            def judge(self, conn, message):
+                answer, place, reply = super().judge(conn, message)
+                judged.append((answer, place, len(message) - 5))
+                return answer, place, reply
+
+        for trace in traces.many("lengths", 20000):
+            box = Remembering()
+            for line in trace.lines:
+                box.line(line)
+        self.assertLessEqual({answer for answer, _, _ in judged}, set(BY_NAME.values()))
+        for answer, place, length in judged:
+            if answer == LEFT_OVER:
+                self.assertTrue(2 <= place < length, (place, length))
+            else:
+                self.assertEqual(place, length if answer in (ENDS_EARLY, LIST_CUT) else 0, answer)
+
+    def test_replay_lines(self):
+        """The place stands between the bytes taken and the reply's length; a collection has none."""
+        for line, printed in (("bytes 0 4096 010003FFFF0A0300", "20 8 3 0 -"), ("bytes 0 4096 010005FFFF0A03000100", "21 10 4 0 -"),
+                              ("bytes 0 4096 010003FFFF170001", "22 8 3 0 -"), ("bytes 0 4096 010006FFFF05000400000006", "20 11 6 0 -"),
+                              ("bytes 0 4096 01000CFFFF1500010000000000000100FF", "21 17 11 0 -"),
+                              ("bytes 0 4096 06", "2 1 0 0 -"), ("bytes 0 4096 010003FFFF170000", "1 8 0 8 0100030780180000"),
+                              ("collect 0 4096", "0 0 -")):
+            self.assertEqual(self.box.line(line), printed, line)
 
 
 class TimeByTheMs(unittest.TestCase):
@@ -1249,12 +1548,12 @@ class Tools(unittest.TestCase):
 
         class Counting(Box):
             def judge(self, conn, message):
-                answer, reply = super().judge(conn, message)
+                answer, place, reply = super().judge(conn, message)
                 if message[0] == 1 and len(message) <= 5 + 1024:
                     sent, true = message[3:5], field(crc16(message[5:]), 2)
                     kind = (conn.strict, sent == b"\xFF\xFF", sent == true, answer == SERVED)
                     seen[kind] = seen.get(kind, 0) + 1
-                return answer, reply
+                return answer, place, reply
 
         for trace in traces.many("strict", 20000):
             box = Counting()
@@ -1264,6 +1563,60 @@ class Tools(unittest.TestCase):
                      (0, False, True, True), (0, False, False, False), (0, True, False, True), (0, True, True, True)):
             self.assertGreater(seen[kind], 30, kind)
         self.assertNotIn((1, True, False, True), seen)
+
+    def ends_in(self, events):
+        """How often contents of a wrong length occur in traces of so many events: of each type and answer by where they end."""
+        seen = Counter()
+
+        def where(content, answer, place):
+            surplus = len(content) - place
+            if answer == LEFT_OVER:
+                return "one byte" if surplus == 1 else "a few bytes" if surplus < 50 else "many"
+            return traces.cut_in(content) if answer == LIST_CUT else place
+
+        class Counting(Box):
+            def judge(self, conn, message):
+                answer, place, reply = super().judge(conn, message)
+                if answer in WITH_A_PLACE:
+                    seen[message[5], answer, where(message[5:], answer, place)] += 1
+                return answer, place, reply
+
+        for trace in traces.many("ends", events):
+            box = Counting()
+            for line in trace.lines:
+                box.line(line)
+        return seen
+
+    def test_each_end_in_traces(self):
+        """Every length that is too short of the types without a list, every part of a list and of its count, and surplus of every kind.
+        Otherwise the traces would show nothing."""
+        seen = self.ends_in(40000)
+        early = {5: (1, 2, 4, 5, 6), 7: range(1, 9), 10: range(1, 8), 21: (1, 2), 23: (1, 2), 26: (1,)}
+        parts = {21: ("before an ID", "in an ID"),
+                 23: ("before an ID", "in an ID", "before a length", "in a length", "before a block", "in a block")}
+        kinds = [(kind, ENDS_EARLY, place) for kind, places in early.items() for place in places]
+        kinds += [(kind, LIST_CUT, part) for kind, found in parts.items() for part in found]
+        kinds += [(kind, LEFT_OVER, surplus) for kind in early for surplus in ("one byte", "a few bytes", "many")]
+        self.assertLessEqual(set(seen), set(kinds))
+        for kind in kinds:
+            self.assertGreater(seen[kind], 2, kind)
+
+    def test_where_a_list_is_cut(self):
+        """An entry of 8, 2 and 1 bytes, and an ID."""
+        content = b"\x17\x00\x02" + field(INPUT_IDS[0], 8) + b"\x00\x01\x00"
+        found = ["before an ID"] + ["in an ID"] * 7 + ["before a length", "in a length", "before a block", "before an ID"]
+        self.assertEqual([traces.cut_in(content[:n]) for n in range(3, 15)], found)
+        self.assertEqual(traces.cut_in(content[:12] + b"\x02\x00"), "in a block")
+        content = b"\x15\x00\x02" + field(INPUT_IDS[0], 8)
+        self.assertEqual([traces.cut_in(content[:n]) for n in (3, 4, 10, 11)], ["before an ID", "in an ID", "in an ID", "before an ID"])
+
+    def test_edges_of_a_content(self):
+        """Where its fields begin and the last one ends; of a list that is cut, where what is begun would go on and end."""
+        self.assertEqual(traces.edges(b"\x05\x00\x00"), [1, 3, 7])
+        self.assertEqual(traces.edges(b"\x63\x00"), [1])
+        self.assertEqual(traces.edges(b"\x15\x00\x02" + bytes(16)), [1, 3, 11, 19])
+        self.assertEqual(traces.edges(b"\x17\x00\x02" + bytes(8) + b"\x00\x02\x01\x01" + bytes(10)), [1, 3, 11, 13, 15, 23, 25, 25])
+        self.assertEqual(traces.edges(b"\x17\x00\x01" + bytes(3)), [1, 3, 11, 13, 13])
 
     def test_same_seed_same_trace(self):
         self.assertEqual(traces.make("a", 300), traces.make("a", 300))
@@ -1298,6 +1651,21 @@ class Tools(unittest.TestCase):
         lines = hold.Shrinker(play, 3000).shrink(trace.lines)
         self.assertNotEqual(play(lines), hold.expected_of(lines))
         self.assertLessEqual(len(lines), 6, lines)
+
+    def test_shrinker_of_lists(self):
+        """Entries are dropped with their count, so that a list of many keeps what is left over behind it, or missing."""
+        entry = field(INPUT_IDS[0], 8) + b"\x00\x05\x02\x00\x00\x00\x07"
+        for name, content, shortest in (("surplus told one too far", b"\x17\x00\x28" + entry * 40 + b"\x00", "010004FFFF17000000"),
+                                        ("20 between two entries", b"\x17\x00\x29" + entry * 40, "010012FFFF170002" + entry.hex())):
+            def play(lines):
+                box = MUTANTS[name]()
+                return [box.line(line) for line in lines]
+
+            line = f"bytes 0 4096 {traces.framed(content).hex().upper()}"
+            lines = hold.Shrinker(play, 3000).shrink(["open 0 2", "level 1 1", line, "state"])
+            self.assertNotEqual(play(lines), hold.expected_of(lines))
+            self.assertEqual([line.split(" ")[0] for line in lines], ["open", "bytes"], lines)
+            self.assertEqual(len(lines[-1].split(" ")[3]), len(shortest), lines)
 
 
 if __name__ == "__main__":

@@ -9,6 +9,7 @@ tests/browser.py tries the page itself in a real browser.
 import http.client
 import json
 import os
+import re
 import signal
 import socket
 import subprocess
@@ -18,12 +19,15 @@ import threading
 import time
 import unittest
 
-from answers import BAD_CHECKSUM, QUEUE_FULL
-from boxd import Boxd, Client, MONITOR, PATIENCE, PROGRAM, Program, ROOT, frame, pulse, refused
+from answers import ALREADY_OPEN, BAD_CHECKSUM, BAD_RANK, BY_NAME, QUEUE_FULL, TOO_LONG
+from boxd import (Boxd, CLOCK, Client, HOW_MANY, LAST_REFUSED, MONITOR, PATIENCE, PROGRAM, Program, ROOT, custom_answer, frame, pulse, refused,
+                  unchecked)
 from model import Box, RELAY_IDS, field, number
 
 sys.path.insert(0, os.path.join(ROOT, "host"))
+sys.path.insert(0, os.path.join(ROOT, "panel"))
 import adduser                                                                                      # noqa: E402
+import panel as program                                                                             # noqa: E402
 
 
 class Panel(Program):
@@ -68,9 +72,10 @@ class Panel(Program):
 
 
 class Plain:
-    """A box whose host answers nothing of its own: the model on a socket, for one client."""
+    """A box whose host answers nothing of its own but to those messages that are given: the model on a socket, for one client."""
 
-    def __init__(self):
+    def __init__(self, own=None):
+        self.own = own or {}
         self.listener = socket.create_server(("127.0.0.1", 0))
         self.port = self.listener.getsockname()[1]
         self.box = Box()
@@ -83,8 +88,8 @@ class Plain:
         with connection:
             piece = connection.recv(65536)
             while piece:
-                _, taken, reply = self.box.bytes_(0, 4096, piece)
-                connection.sendall(reply)
+                _, taken, _, reply = self.box.bytes_(0, 4096, piece)
+                connection.sendall(self.own.get(piece[:taken], reply))
                 piece = piece[taken:] or connection.recv(65536)
 
     def close(self):
@@ -233,13 +238,89 @@ class Case(unittest.TestCase):
         """Where the box's host does not say how many stand, the panel shows none, and does not claim that a pulse was taken."""
         plain = Plain()
         with Panel(plain.port) as panel:
-            self.assertIsNone(panel.wait_until(answers)["standing"])
+            state = panel.wait_until(answers)
+            self.assertEqual((state["standing"], state["refused"]), (None, ""))
             status, _, said = panel.pulse(4, 60000)
             self.assertEqual(status, 502)
             self.assertIn("did not tell whether it took the pulse of relay 4", said)
             panel.wait_until(lambda s: s["relays"][3]["closed"])
             self.assertEqual(panel.press(1, True)[0], 200)
         plain.close()
+
+    def test_last_refused(self):
+        """M-105: the last message that the box refused, whoever sent it, stands on the panel in words; none after power-up."""
+        with Boxd("--quiet") as host, Panel(host.port) as panel:
+            panel.wait_until(answers)
+            with Client(host.port) as client:
+                client.clock()
+                self.assertEqual(panel.press(1, True)[0], 200)              # looks at the box at once
+                self.assertEqual(panel.state()["refused"], "")
+                for sent, words in (
+                        (frame(b"\x0A\x03\x00"), "message of type 10, it ends too early at byte 3 (20)"),
+                        (frame(b"\x05\x00\x00" + bytes(5)), "message of type 5, bytes are left over from byte 7 on (21)"),
+                        (frame(b"\x15\x00\x02" + bytes(12)), "message of type 21, its list is cut at byte 15 (22)"),
+                        (unchecked(bytes(1025)), "message, it is too long (6)"),
+                        (b"\x01\x00\x01\x12\x34\x63", "message of type 99, its checksum differs (7)"),
+                        (unchecked(b""), "empty message, this box does not offer it (8)"),
+                        (frame(b"\xFF"), "message of type 255, this box does not offer it (8)"),
+                        (frame(b"\x0A\x03\x00\x09"), "message of type 10, a number in it is out of range (11)"),
+                        (pulse(1, 60000) * 32, "message of type 10, the queue of pulses is full (14)")):
+                    client.send(sent + CLOCK)
+                    client.next_of(6)
+                    panel.press(1, True)
+                    self.refused_is(panel, f"Last refused: connection 1, {words}, ")
+            panel.wait_until(lambda s: re.search(r", [1-9]\d* (s|min) ago$", s["refused"]))
+            host.process.kill()
+            panel.wait_until(lambda s: not s["answers"])
+            with Boxd("--quiet", port=host.port) as again:
+                panel.wait_until(lambda s: s["answers"] and s["refused"] == "")
+                again.quit()
+
+    def refused_is(self, panel, words):
+        self.assertEqual(panel.wait_until(lambda s: s["refused"].startswith(words))["refused"].count(" ago"), 1)
+
+    def test_refusals_of_a_rank(self):
+        """What is refused before a login is shown too, to those who have logged in; the panel's own questions are none."""
+        with tempfile.TemporaryDirectory() as folder:
+            users = os.path.join(folder, "users")
+            with open(users, "w", encoding="ascii") as file:
+                file.write(adduser.line("anna", 1, b"salmon", 1000) + "\n")
+            with Boxd("--quiet", "--users", users) as host, Panel(host.port, "--user", "anna", secret="salmon") as panel:
+                self.assertEqual(panel.wait_until(answers)["refused"], "")
+                with Client(host.port) as nobody:
+                    nobody.send(frame(b"\x07"))
+                    host.wait_for("connection 1 sent a message of type 7")
+                panel.press(1, True)
+                self.refused_is(panel, "Last refused: connection 1, message of type 7, its sender has too low a rank (9), ")
+                host.quit()
+
+    def test_words_of_refusals(self):
+        """The host's answer in words: for every number that refuses a message, with every unit of time, the largest numbers, and a number that a
+        later box may give.
+        """
+        def words(*numbers):
+            return program.refusal_words(program.Fields(b"".join(field(x, size) for x, size in zip(numbers, (1, 1, 1, 1, 2, 4)))))
+
+        of_messages = {answer for answer in BY_NAME.values() if answer >= TOO_LONG} - {ALREADY_OPEN, BAD_RANK}
+        self.assertEqual(set(program.REFUSALS), of_messages)
+        self.assertEqual(words(0, 0, 0, 0, 0, 0), "")
+        for seconds, ago in ((0, "0 s"), (59, "59 s"), (60, "1 min"), (3599, "59 min"), (3600, "1 h"), (86399, "23 h"), (86400, "1 d"),
+                             (4294967295, "49710 d")):
+            self.assertEqual(words(2, 3, 255, 22, 1024, seconds),
+                             f"Last refused: connection 3, message of type 255, its list is cut at byte 1024 (22), {ago} ago")
+        self.assertEqual(words(2, 0, 10, 15, 0, 1),
+                         "Last refused: connection 0, message of type 10, for a reason that this panel does not know (15), 1 s ago")
+
+    def test_older_hosts(self):
+        """A host that tells how many pulses stand, and not which message was refused, or answers that it cannot: the panel goes on without."""
+        for more in ({}, {LAST_REFUSED: frame(b"\xFE\xFF\x00\x00")}, {LAST_REFUSED: custom_answer(b"\x02" * 9)}):
+            plain = Plain({HOW_MANY: custom_answer(b"\x02"), **more})
+            with self.subTest(more), Panel(plain.port) as panel:
+                state = panel.wait_until(lambda s: s["answers"] and s["standing"] is not None)
+                self.assertEqual((state["standing"], state["refused"]), (2, ""))
+                self.assertEqual(panel.press(1, True)[0], 200)
+                self.assertEqual(panel.pulse(2, 5)[::2], (200, "The pulse of relay 2, 5 ms, waits behind 2 others.\n"))
+            plain.close()
 
     def test_other_sites_press_nothing(self):
         """A request under another name, or a command from another page, is refused."""

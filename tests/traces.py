@@ -51,6 +51,43 @@ def truly_0xffff(content):
     return begun + (ENDING ^ crc16(begun)).to_bytes(2, "little")
 
 
+# Of each type without a list where its fields begin, and where the last of them ends.
+FIELDS = {5: (1, 3, 7), 7: (1, 9), 10: (1, 2, 4, 8), 26: (1, 2)}
+
+
+def edges(content):
+    """Where the fields of a content begin, and where the last of them ends.  Those of a list go by the lengths that stand in it, as far
+    as it goes.
+    """
+    if content[0] not in (21, 23):
+        return list(FIELDS.get(content[0], (1,)))
+    found, position = [1, 3], 3
+    while position < len(content):
+        if content[0] == 23:
+            found += [position + 8, position + 10]
+            position += 2 + number(content[position + 8:position + 10])
+        position += 8
+        found.append(position)
+    return found
+
+
+def cut_in(content):
+    """Of a content that ends within a list, where it ends."""
+    position = 3
+    while True:
+        rest = len(content) - position
+        if rest < 8:
+            return "in an ID" if rest else "before an ID"
+        if content[0] == 23:
+            if rest < 10:
+                return "in a length" if rest == 9 else "before a length"
+            size = number(content[position + 8:position + 10])
+            if rest < 10 + size:
+                return "in a block" if rest > 10 else "before a block"
+            position += 2 + size
+        position += 8
+
+
 KNOWN_IDS = INPUT_IDS + RELAY_IDS
 
 # Each of them is next to a known one in some way: one too low or high, another low byte, a bit above,
@@ -367,7 +404,7 @@ class Maker:
     def right_or_wrong(self):
         """A message of an offered type, often with some fault in its content, length or checksum."""
         content = self.weighted(self.CONTENTS)(self)
-        if self.one_in(6):
+        if self.one_in(5):
             content = self.off_length(content)
         if len(content) > 3 and self.one_in(20):
             content = truly_0xffff(content)
@@ -375,10 +412,24 @@ class Maker:
 
     def off_length(self, content):
         """Too short or too long by one or more."""
-        by = self.pick(1, 1, 1, 2, 3, 4, 8, self.rng.randrange(1, 40))
         if self.one_in(2):
-            return content[:max(1, len(content) - by)]
-        return (content + self.pick(bytes(by), self.rng.randbytes(by)))[:1024]
+            return content[:self.cut_place(content)]
+        by = self.pick(1, 1, 1, 2, 3, 4, 8, 12, self.rng.randrange(1, 40), self.rng.randrange(1, 1024), 1024)
+        again = (content * (by // len(content) + 1))[:by]
+        return (content + self.pick(bytes(by), self.rng.randbytes(by), again))[:1024]
+
+    def cut_place(self, content):
+        """Where a content is cut off: before its last byte, anywhere, or at an edge or next to it; at one of the first two, between which
+        a list has its count, as often as at all of them.
+        """
+        chance = self.rng.randrange(4)
+        if chance == 0:
+            place = len(content) - 1
+        elif chance == 1:
+            place = self.rng.randrange(len(content))
+        else:
+            place = self.rng.choice(edges(content)[:2] if chance == 2 else edges(content)) + self.pick(-1, 0, 0, 1)
+        return max(1, min(place, len(content) - 1))
 
     def checksum(self, content):
         """To a strict connection less often 0xFFFF, which it refuses unless it is the true one."""
@@ -420,6 +471,8 @@ class Maker:
         kind = self.rng.randrange(4)
         if kind == 0:
             content = self.full_write(length)
+            if self.one_in(3):
+                content = content[:1] + field(self.spoilt_count(number(content[1:3]), 1), 2) + content[3:]
         elif kind == 1:
             content = self.rng.choice((b"\x05\x00\x00", b"\x05\x00\x03", b"\x0A\x01", b"\x0A\x04", b"\x0A\x07", b"\x63",
                                        b"\x1A\x01"))
@@ -512,8 +565,8 @@ class Maker:
         count = self.spoilt_count(size)
         return b"\x15" + field(count, 2) + b"".join(field(id, 8) for id in ids)
 
-    def spoilt_count(self, count):
-        if not self.one_in(12):
+    def spoilt_count(self, count, one_in=12):
+        if not self.one_in(one_in):
             return count
         return self.pick(max(0, count - 1), count + 1, count | 0x100, 0x8000 | count, 0xFFFF, 0)
 
@@ -572,6 +625,24 @@ class Maker:
 
     def enumerate_content(self):
         return b"\x1A" + bytes([self.pick(1, 1, 2, 2, 3, 3, 0, 4, 5, 128, 129, 255)])
+
+    def of_any_type(self):
+        """A content, none too long, of each type as often as of another, of those with a list rather more."""
+        return self.pick(self.long_request, self.clock_setting, self.command_content, self.pulse_content, self.enumerate_content,
+                         self.short_list, self.short_list, self.short_list)()
+
+    def long_request(self):
+        """A right one with its interval."""
+        return b"\x05\x00" + bytes([self.pick(0, 1, 2, 4, 5)]) + self.rng.randbytes(4)
+
+    def short_list(self):
+        """A list whose count is right, of a few IDs or entries that fit."""
+        size = self.pick(0, 1, 1, 2, 2, 3)
+        if self.one_in(2):
+            return b"\x15" + field(size, 2) + b"".join(field(self.an_id(), 8) for _ in range(size))
+        blocks = [self.pick(b"", b"\x00", b"\x01\x01", b"\x01\x00", b"\x02\x00\x00\x00\x07", bytes(self.rng.randrange(20)))
+                  for _ in range(size)]
+        return b"\x17" + field(size, 2) + b"".join(field(self.an_id(), 8) + field(len(block), 2) + block for block in blocks)
 
     # -- scenes: a few lines about one edge ------------------------------------------------------------
 
@@ -720,6 +791,58 @@ class Maker:
         self.send(whole, self.command_content())
         self.say("state")
 
+    def scene_lengths_in_a_row(self, c):
+        """A content in several lengths, each a byte longer than the one before: up to an edge of it and over, the last one too."""
+        content = self.of_any_type()
+        longest = content + self.rng.randbytes(8)
+        first = max(1, self.rng.choice(edges(content)) - self.pick(1, 2, 4, 6))
+        for length in range(first, min(first + 8, len(longest) + 1)):
+            self.send(c, longest[:length])
+
+    def scene_place_gone(self, c):
+        """A content of the wrong length, and behind it what has another answer, on the same connection or on another."""
+        ready = [d for d in self.open_ones() if not self.box.connections[d].joined and not self.waiting[d]]
+        for _ in range(self.pick(1, 2, 3)):
+            content = self.of_any_type()
+            self.send(c, self.off_length(content))
+            self.place_gone(self.pick(c, c, *ready), content)
+
+    def place_gone(self, c, content):
+        """Something that has one of nearly all the answers without a place: a place that was kept would be told again."""
+        after = self.rng.randrange(10)
+        if after == 0:
+            self.offer(c, self.pick(b"\x06", b"\x06\x06", self.stray()), 4096)
+        elif after == 1:
+            self.offer(self.pick(c, 4, 255, self.rng.randrange(4)), b"", 4096)
+        elif after == 2:
+            self.offer(c, framed(content), self.pick(0, 5, 4095))
+        elif after == 3:
+            self.offer(c, framed(content, self.bad_checksum(content)), 4096)
+        elif after == 4:
+            self.send(c, self.pick(b"", b"\x63", b"\x01" + content[1:]))
+        elif after == 5:
+            self.send(c, self.pick(b"\x05\x00\x03", b"\x0A\x04", b"\x0A\x01\x00\x09", b"\x1A\x00", b"\x0A\x07\xFF\xFF" + bytes(4)))
+        elif after == 6:
+            self.offer(c, framed(bytes(1025)), 4096)
+        elif after == 7:
+            self.say(f"collect {c} 4096")
+        else:
+            message = framed(self.pick(b"\x05\x00\x00", b"\x1A\x01", b"\x17\x00\x00", self.command_content(), content))
+            middle = self.pick(0, 0, self.rng.randrange(1, len(message)))
+            self.offer(c, message[:middle], 4096)
+            self.offer(c, message[middle:], 4096)
+
+    def scene_wrong_length_without_a_rank(self, c):
+        """Opened anew without a rank, or with the one that does not set the clock: there no length is judged."""
+        rank = self.rng.randrange(2)
+        self.say(f"close {c}")
+        self.say(f"open {c} {rank}{self.strict()}")
+        for _ in range(self.pick(2, 3, 4)):
+            content = self.clock_setting() if rank else self.of_any_type()
+            self.send(c, self.pick(self.off_length(content), content[:self.pick(1, 2, 3)]))
+        self.say(f"close {c}")
+        self.open_again(c)
+
     def scene_half_and_close(self, c):
         """Half a message, close, open, the other half."""
         message = framed(self.weighted(self.CONTENTS)(self))
@@ -789,7 +912,7 @@ class Maker:
         short = self.one_in(2)
         while len(self.box.queue) < PULSES:
             self.send(c, self.right_pulse(self.rng.randrange(1, 9) if short else self.duration()))
-        for _ in range(self.rng.randrange(2, 6)):
+        for _ in range(self.rng.randrange(4, 9)):
             self.more_than_full(c)
         self.say(f"pass {self.ms_to_an_end()}")
         for _ in range(self.rng.randrange(1, 4)):
@@ -825,10 +948,11 @@ class Maker:
     SCENES = (scene_count_top, scene_count_alarm, scene_usage_alarm, scene_clock, scene_nothing_changed,
               scene_there_and_back, scene_monitor_off_and_on, scene_half_and_close, scene_two_halves, scene_byte_by_byte,
               scene_meanwhile, scene_meanwhile, scene_cancelling, scene_cancelling, scene_full_queue, scene_truly_0xffff,
-              scene_strict_anew, scene_two_strictnesses)
+              scene_strict_anew, scene_two_strictnesses, scene_lengths_in_a_row, scene_lengths_in_a_row, scene_place_gone,
+              scene_place_gone, scene_wrong_length_without_a_rank)
 
     STEPS = ((do_talk, 70), (do_level, 7), (do_pass, 5), (do_collect, 7), (do_open, 6), (do_close, 2.5), (do_state, 5),
-             (do_power, .4), (do_bad_line, 2), (do_scene, 5))
+             (do_power, .4), (do_bad_line, 2), (do_scene, 6))
 
     def make(self, events):
         if not self.one_in(5):                                  # the tool starts as after `power`

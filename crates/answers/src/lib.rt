@@ -1,20 +1,33 @@
-// What a call of the plain machine gives back: an answer number and a reply's length; and a reply sealed, with its header before it. It knows no
-// event and no message. It takes every number and every buffer.
+// What a call of the plain machine gives back: an answer number, its place and a reply's length; and a reply sealed, with its header before it.
+// It knows no event and no message. It takes every number and every buffer.
 
 ghost use mathlib.Core.Path.{_≡_};
-ghost use Rattle.answers.specs.Calls.{servedOf, sealedReply, sealedServed};
+ghost use Rattle.answers.specs.Calls.{servedAt, servedOf, sealedReply, sealedServed};
 
-// What an event or a message came to; len bytes of the reply buffer are the reply.
+// What an event or a message came to; len bytes of the reply buffer are the reply. The place is that of the first byte of a content that is
+// missing or left over, where that is why it is refused, else 0.
 pub struct Served {
     pub answer: u8,
+    pub place: usize,
     pub len: usize,
+}
+
+// Refused with a number and its place.
+pub fn refused_at(answer: u8, place: usize) -> Served
+    ensures { λ r. ⌜ r ≡ servedAt answer place 0 ⌝ }
+{
+    Served {
+        answer,
+        place,
+        len: 0,
+    }
 }
 
 // Answered with a number and no reply.
 pub fn no_reply(answer: u8) -> Served
     ensures { λ r. ⌜ r ≡ servedOf answer 0 ⌝ }
 {
-    Served { answer, len: 0 }
+    refused_at(answer, 0)
 }
 
 // The header is put before a reply's content that stands from the sixth byte on; where there is none, nothing is done.
@@ -27,6 +40,7 @@ pub fn seal(s: Served, reply: &mut [u8]) -> Served
     }
     Served {
         answer: s.answer,
+        place: s.place,
         len: frames::seal(reply, n),
     }
 }
@@ -37,6 +51,7 @@ pub fn replied(len: usize) -> Served
 {
     Served {
         answer: numbers::SERVED,
+        place: 0,
         len,
     }
 }

@@ -20,7 +20,8 @@ use lib.ListN.{length, getD}
 use Rattle.words.specs.Words.{fits, numberAt}
 use Rattle.steps.specs.Cut.{need, whole, cuts, messages, seen}
 use Rattle.changes.specs.Answers.{onRelay}
-use Rattle.judges.specs.Judges.{onChannel, judgeCommand, sizedRequest, judgeRequest}
+use Rattle.layouts.specs.Layouts.{onward, optionally, finished}
+use Rattle.judges.specs.Judges.{ofReach, inRange, ifSized, sizedRequest, requestKnown, judgeRequest, onChannel, actionKnown, judgeCommand}
 use Rattle.orders.specs.Orders.{commandOf, orderOf, requestOf}
 use Rattle.rows.specs.Places.{relayAt, lineAt, putRelay, putLine, onRows, Board}
 use Rattle.ring.specs.declared.Pulse.{Pulse}
@@ -68,16 +69,19 @@ clock-frame = record { begun = refl; whole = refl }
 
 -- what each is owed, on any board on which connection 0 has rank 2 and is not strict
 module _ (p : Board) (h : lineAt 0 p .rank ≡ 2) (n : isStrict 0 p ≡ false) where
-  toggle-reply : replyOf (servedMessage 0 (seen 1024 toggle) p) ≡ record { number = 1; sent = [] }
-  unfolding seen servedMessage servedContent orderOf commandOf judgeCommand onChannel fits numberAt obeyed onRelay
+  toggle-reply : replyOf (servedMessage 0 (seen 1024 toggle) p) ≡ record { number = 1; place = 0; sent = [] }
+  unfolding seen servedMessage servedContent orderOf commandOf judgeCommand actionKnown onChannel ifSized inRange ofReach onward finished fits
+      numberAt obeyed onRelay
   toggle-reply = rw (h, n)
 
   nine-number : servedMessage 0 (seen 1024 toggleNine) p .answer ≡ 11
-  unfolding seen servedMessage servedContent orderOf commandOf judgeCommand onChannel fits numberAt obeyed
+  unfolding seen servedMessage servedContent orderOf commandOf judgeCommand actionKnown onChannel ifSized inRange ofReach onward finished fits
+      numberAt obeyed
   nine-number = rw (h, n)
 
   clock-begins : getD (servedMessage 0 (seen 1024 askClock) p .reply) 0 0 ≡ 1
-  unfolding seen servedMessage servedContent orderOf requestOf judgeRequest sizedRequest fits numberAt obeyed
+  unfolding seen servedMessage servedContent orderOf requestOf judgeRequest requestKnown sizedRequest ofReach onward optionally finished fits numberAt
+      obeyed
   clock-begins = rw (h, n)
 
 -- AFTER THE OPENING connection 0 is open at rank 2, not strict, and relay 1 open; each toggle changes that
@@ -106,12 +110,12 @@ module _ (row : List Pulse) where
 
   changes-once : closedOne (toggled (opened row)) ≡ true
   unfolding relayAt lineAt putRelay putLine onRows poweredUp connected openedLine seen servedMessage servedContent orderOf commandOf judgeCommand
-      onChannel fits numberAt obeyed onRelay marked markedRow
+      actionKnown onChannel ifSized inRange ofReach onward finished fits numberAt obeyed onRelay marked markedRow
   changes-once = refl
 
   changes-twice : closedOne (toggled (toggled (opened row))) ≡ false
   unfolding relayAt lineAt putRelay putLine onRows poweredUp connected openedLine seen servedMessage servedContent orderOf commandOf judgeCommand
-      onChannel fits numberAt obeyed onRelay marked markedRow
+      actionKnown onChannel ifSized inRange ofReach onward finished fits numberAt obeyed onRelay marked markedRow
   changes-twice = refl
 
 -- a row of pulses that is long enough
@@ -129,7 +133,7 @@ module _ (row : List Pulse) (long : shortRow (length row) ≡ false) where
         → shown (M .call x (bytes 0 4096 m) .1 .said) ≡ replyOf (servedMessage 0 (seen 1024 m) (opened row .board))
     first-reply m w = rw (ap (λ (y : Tables × Answer served). y .1) (whole-served served M x D [] 0 4096 m (w .whole) rest-none ready), up)
 
-    toggle-first : shown (M .call x (bytes 0 4096 toggle) .1 .said) ≡ record { number = 1; sent = [] }
+    toggle-first : shown (M .call x (bytes 0 4096 toggle) .1 .said) ≡ record { number = 1; place = 0; sent = [] }
     toggle-first = first-reply toggle toggle-frame ∙ toggle-reply (opened row .board) rank-two not-strict
 
     pub shut-out-refusing : RefusesAll M x → ⊥

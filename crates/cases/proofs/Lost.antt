@@ -32,7 +32,8 @@ use Rattle.steps.specs.Cut.{need, whole, cuts, messages}
 use Rattle.changes.specs.Answers.{onInput}
 use Rattle.edits.specs.Edits.{told}
 use Rattle.changes.specs.Levels.{levelOf}
-use Rattle.judges.specs.Judges.{judgeSetClock}
+use Rattle.layouts.specs.Layouts.{onward, finished}
+use Rattle.judges.specs.Judges.{ofReach, ifSized, judgeSetClock}
 use Rattle.orders.specs.Orders.{setClockOf, orderOf}
 use Rattle.marks.specs.Marks.{markedRow, marked}
 use Rattle.plain.specs.Events.{leveled}
@@ -101,12 +102,14 @@ countOne t = inputAt 1 (t .board) .count
 
 box-clocking : countOne (tablesOf (ends settings halves rooms noPulses clocking)) ≡ 1
 unfolding put fits numberAt stepOf firstOf afterOf roomOf runOf inputAt lineAt putInput putLine clockSet onRows onInput told levelOf judgeSetClock
-    setClockOf orderOf markedRow marked openedLine leveled connected clockTold obeyed servedContent servedMessage poweredUp halfAt putHalf bytesCall
+    ifSized ofReach onward finished setClockOf orderOf markedRow marked openedLine leveled connected clockTold obeyed servedContent servedMessage
+    poweredUp halfAt putHalf bytesCall
 box-clocking = refl
 
 uncounting-clocking : countOne (tablesOf (final served (boxWith uncountingCall) up clocking)) ≡ 0
 unfolding put fits numberAt stepOf firstOf afterOf roomOf runOf inputAt lineAt putInput putLine clockSet onRows onInput told levelOf judgeSetClock
-    setClockOf orderOf markedRow marked openedLine leveled connected clockTold obeyed servedContent servedMessage poweredUp halfAt putHalf bytesCall
+    ifSized ofReach onward finished setClockOf orderOf markedRow marked openedLine leveled connected clockTold obeyed servedContent servedMessage
+    poweredUp halfAt putHalf bytesCall
 uncounting-clocking = refl
 
 pub shut-out-uncounting : Demand3 served (boxWith uncountingCall) up clocking → ⊥

@@ -17,8 +17,10 @@ use Rattle.edits.specs.Edits.{told, inputWritten}
 use Rattle.changes.specs.Commands.{masked, blockedRow, blockOf}
 use Rattle.devices.specs.Devices.{deviceOf}
 use Rattle.changes.specs.Entries.{writeInput}
-use Rattle.orders.specs.Entries.{fitsExactly}
-use Rattle.judges.specs.Judges.{sizedRequest, judgeRequest, ifSized, onChannel, judgeCommand, judgeRead, judgeWrite}
+use Rattle.layouts.specs.Layouts.{onward, optionally, finished}
+use Rattle.orders.specs.Entries.{entriesLength}
+use Rattle.judges.specs.Judges.{ofReach, inRange, ifSized, ifListed, sizedRequest, requestKnown, judgeRequest, onChannel, actionKnown}
+use Rattle.judges.specs.Judges.{judgeCommand, judgeRead, judgeWrite}
 use Rattle.orders.specs.Orders.{requestOf, commandOf, readOf, writeOf, orderOf}
 use Rattle.readings.specs.Readings as readings
 use Rattle.writers.specs.Writers.{inputsOf, relaysOf}
@@ -36,20 +38,20 @@ use Rattle.pieces.specs.Pieces.{bytesCall, halvesAfter, roomsAfter}
 use Rattle.cases.specs.Starred.{Row, countTop, toldAgain, blockCases, channelEdges, lengthCases, writeCases, strictCases, starredCases}
 
 -- every row of them does what 01 owes
-record Holds (rs : List Row) : Type 0 where
+pub record Holds (rs : List Row) : Type 0 where
   pub rows : map (λ (r : Row). r .does) rs ≡ map (λ (r : Row). r .owes) rs
 
 map-both : (f : Row → List ℕ) (xs ys : List Row) → map f (xs ++ ys) ≡ map f xs ++ map f ys
 map-both f [] ys = refl
 map-both f (x ∷ xs) ys = ap (λ (l : List (List ℕ)). f x ∷ l) (map-both f xs ys)
 
-both : {xs ys : List Row} → Holds xs → Holds ys → Holds (xs ++ ys)
+pub both : {xs ys : List Row} → Holds xs → Holds ys → Holds (xs ++ ys)
 both {xs} {ys} p q = record { rows = rw (map-both (λ (r : Row). r .does) xs ys, map-both (λ (r : Row). r .owes) xs ys, p .rows, q .rows) }
 
 count-top : Holds countTop
-unfolding countTop inputAt putInput onInput told levelOf deviceOf inputWritten writeInput fitsExactly judgeWrite writeOf deviceDone
-    writtenFrom markedRow leveled put fits numberAt stepOf firstOf afterOf roomOf runOf lineAt putLine onRows orderOf openedLine marked connected
-    obeyed servedContent servedMessage poweredUp halfAt putHalf bytesCall halvesAfter roomsAfter rowAfter queueOf
+unfolding countTop inputAt putInput onInput told levelOf deviceOf inputWritten writeInput entriesLength onward finished ofReach ifListed judgeWrite
+    writeOf deviceDone writtenFrom markedRow leveled put fits numberAt stepOf firstOf afterOf roomOf runOf lineAt putLine onRows orderOf openedLine
+    marked connected obeyed servedContent servedMessage poweredUp halfAt putHalf bytesCall halvesAfter roomsAfter rowAfter queueOf
 count-top = record { rows = refl }
 
 told-again : Holds toldAgain
@@ -58,33 +60,34 @@ unfolding toldAgain inputAt putInput onInput told levelOf markedRow leveled moni
 told-again = record { rows = refl }
 
 blocks : Holds blockCases
-unfolding blockCases anyBelow relayAt masked blockedRow blockOf ifSized judgeCommand commandOf relaysOf markedRow monitorSent collected put fits
-    numberAt stepOf firstOf afterOf roomOf runOf lineAt putLine onRows orderOf openedLine marked connected obeyed servedContent servedMessage
-    poweredUp halfAt putHalf bytesCall halvesAfter roomsAfter rowAfter queueOf
+unfolding blockCases anyBelow relayAt masked blockedRow blockOf onward finished ofReach ifSized actionKnown judgeCommand commandOf relaysOf markedRow
+    monitorSent collected put fits numberAt stepOf firstOf afterOf roomOf runOf lineAt putLine onRows orderOf openedLine marked connected obeyed
+    servedContent servedMessage poweredUp halfAt putHalf bytesCall halvesAfter roomsAfter rowAfter queueOf
 blocks = record { rows = refl }
 
 channels : Holds channelEdges
-unfolding channelEdges relayAt putRelay onRelay onChannel judgeCommand commandOf relaysOf markedRow put fits numberAt stepOf firstOf afterOf roomOf
-    runOf lineAt putLine onRows orderOf openedLine marked connected obeyed servedContent servedMessage poweredUp halfAt putHalf bytesCall halvesAfter
-    roomsAfter rowAfter queueOf
+unfolding channelEdges relayAt putRelay onRelay onward finished ofReach inRange ifSized onChannel actionKnown judgeCommand commandOf relaysOf
+    markedRow put fits numberAt stepOf firstOf afterOf roomOf runOf lineAt putLine onRows orderOf openedLine marked connected obeyed servedContent
+    servedMessage poweredUp halfAt putHalf bytesCall halvesAfter roomsAfter rowAfter queueOf
 channels = record { rows = refl }
 
 lengths : Holds lengthCases
-unfolding lengthCases sizedRequest judgeRequest requestOf monitorSet put fits numberAt stepOf firstOf afterOf roomOf runOf lineAt putLine onRows
-    orderOf openedLine marked connected obeyed servedContent servedMessage poweredUp halfAt putHalf bytesCall halvesAfter roomsAfter rowAfter queueOf
+unfolding lengthCases onward optionally finished ofReach sizedRequest requestKnown judgeRequest requestOf monitorSet put fits numberAt stepOf firstOf
+    afterOf roomOf runOf lineAt putLine onRows orderOf openedLine marked connected obeyed servedContent servedMessage poweredUp halfAt putHalf
+    bytesCall halvesAfter roomsAfter rowAfter queueOf
 lengths = record { rows = refl }
 
 writes : Holds writeCases
-unfolding writeCases rows chunks inputAt relayAt putInput alarmState alarmAbove alarmAtOrAbove onInput deviceOf inputWritten writeInput
-    fitsExactly judgeRead judgeWrite readOf writeOf inputsOf relaysOf inputRow monitorReply inputBlock readings.blockOf entryOf idsIn devicesReply
-    deviceDone writtenFrom monitorSent collected put fits numberAt stepOf firstOf afterOf roomOf runOf lineAt putLine onRows orderOf openedLine marked
-    connected obeyed servedContent servedMessage poweredUp halfAt putHalf bytesCall halvesAfter roomsAfter rowAfter queueOf
+unfolding writeCases rows chunks inputAt relayAt putInput alarmState alarmAbove alarmAtOrAbove onInput deviceOf inputWritten writeInput entriesLength
+    onward finished ofReach ifListed judgeRead judgeWrite readOf writeOf inputsOf relaysOf inputRow monitorReply inputBlock readings.blockOf entryOf
+    idsIn devicesReply deviceDone writtenFrom monitorSent collected put fits numberAt stepOf firstOf afterOf roomOf runOf lineAt putLine onRows
+    orderOf openedLine marked connected obeyed servedContent servedMessage poweredUp halfAt putHalf bytesCall halvesAfter roomsAfter rowAfter queueOf
 writes = record { rows = refl }
 
 strict : Holds strictCases
-unfolding strictCases bitStep bitSteps byteStep crcFrom crcOf anyBelow relayAt masked blockedRow blockOf ifSized judgeCommand commandOf relaysOf
-    markedRow put fits numberAt stepOf firstOf afterOf roomOf runOf lineAt putLine onRows orderOf openedLine marked connected closed obeyed
-    servedContent servedMessage poweredUp halfAt putHalf bytesCall halvesAfter roomsAfter rowAfter queueOf
+unfolding strictCases bitStep bitSteps byteStep crcFrom crcOf anyBelow relayAt masked blockedRow blockOf onward finished ofReach ifSized actionKnown
+    judgeCommand commandOf relaysOf markedRow put fits numberAt stepOf firstOf afterOf roomOf runOf lineAt putLine onRows orderOf openedLine marked
+    connected closed obeyed servedContent servedMessage poweredUp halfAt putHalf bytesCall halvesAfter roomsAfter rowAfter queueOf
 strict = record { rows = refl }
 
 pub starred : map (λ (r : Row). r .does) starredCases ≡ map (λ (r : Row). r .owes) starredCases

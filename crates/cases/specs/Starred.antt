@@ -134,11 +134,11 @@ abbrev pub emptyContent : List Row
 emptyContent =
     row (number [] (sends []) ∷ []) (8 ∷ []) ∷ []
 
--- 01, Edges, 8: request 4 with its interval, 7 bytes, is served; 6 bytes are refused with 10
+-- 01, Edges, 8: request 4 with its interval, 7 bytes, is served; 02, M-105, 3: 6 bytes are refused with 20
 abbrev pub requestLengths : List Row
 requestLengths =
     row (number [] (sends (0x05 ∷ 0x00 ∷ 0x04 ∷ 0 ∷ 0 ∷ 0 ∷ 1 ∷ [])) ∷ []) (1 ∷ []) ∷
-    row (number [] (sends (0x05 ∷ 0x00 ∷ 0x04 ∷ 0 ∷ 0 ∷ 1 ∷ [])) ∷ []) (10 ∷ []) ∷ []
+    row (number [] (sends (0x05 ∷ 0x00 ∷ 0x04 ∷ 0 ∷ 0 ∷ 1 ∷ [])) ∷ []) (20 ∷ []) ∷ []
 
 -- 01, Edges, 9: flags 1 and 2 together leave the written count
 abbrev pub resetAndWrite : List Row

@@ -153,6 +153,7 @@ fn feed_line(
         Parsed::Bad => Done {
             taken: 0,
             len: 0,
+            place: 0,
             answer: 255,
         },
     }

@@ -41,10 +41,6 @@ notOffered = 8
 abbrev pub lowRank : ℕ
 lowRank = 9
 
--- 01, Answer numbers, line 10: a content of another length than its layout's
-abbrev pub badLength : ℕ
-badLength = 10
-
 -- 01, Answer numbers, line 11: a number out of its range
 abbrev pub outOfRange : ℕ
 outOfRange = 11
@@ -60,3 +56,16 @@ badRank = 13
 -- 02, M-100, 7: a pulse is asked for, and 31 stand
 abbrev pub queueFull : ℕ
 queueFull = 14
+
+-- 02, M-105, 1: what 01, Answer numbers, line 10, said by one number is said by three, and 10 itself is not given: the content ends too early,
+-- but for what 22 says
+abbrev pub endsEarly : ℕ
+endsEarly = 20
+
+-- 02, M-105, 1: bytes are left over
+abbrev pub leftOver : ℕ
+leftOver = 21
+
+-- 02, M-105, 1: the content ends inside a list whose count is whole
+abbrev pub listCut : ℕ
+listCut = 22

@@ -21,8 +21,6 @@ pub const NOT_OFFERED: u8 = 8;
 
 pub const LOW_RANK: u8 = 9;
 
-pub const BAD_LENGTH: u8 = 10;
-
 pub const OUT_OF_RANGE: u8 = 11;
 
 pub const ALREADY_OPEN: u8 = 12;
@@ -30,3 +28,11 @@ pub const ALREADY_OPEN: u8 = 12;
 pub const BAD_RANK: u8 = 13;
 
 pub const QUEUE_FULL: u8 = 14;
+
+// In the place of 10, which is not given.
+
+pub const ENDS_EARLY: u8 = 20;
+
+pub const LEFT_OVER: u8 = 21;
+
+pub const LIST_CUT: u8 = 22;

@@ -19,11 +19,11 @@ effect d n = record { did = d; taken = n }
 
 -- what it gives back
 abbrev pub doneOf : Effect → Done
-doneOf e = record { answer = e .did .answer; taken = e .taken; len = length (e .did .reply) }
+doneOf e = record { answer = e .did .answer; taken = e .taken; place = e .did .place; len = length (e .did .reply) }
 
 -- what the plain machine gave back, with the bytes taken
 abbrev pub madeOf : Served → ℕ → Done
-madeOf s n = record { answer = s .answer; taken = n; len = s .len }
+madeOf s n = record { answer = s .answer; taken = n; place = s .place; len = s .len }
 
 -- 01, Answer numbers, 6: an event, which takes none
 abbrev pub still : Did → Effect

@@ -20,12 +20,14 @@ use rows::ROWS;
 use steps::Half;
 use steps::Outcome;
 
-// What a call came to: the bytes taken of a piece, the reply's length, the answer number. The number stands last: in front it would have a gap
-// behind it, and a struct with a gap inside is put together in memory and copied.
+// What a call came to: the bytes taken of a piece, the reply's length, the place of the first byte of a content that is missing or left over,
+// where that is why it is refused (else 0), and the answer number. The number stands last: in front it would have a gap behind it, and a struct
+// with a gap inside is put together in memory and copied.
 #[repr(C)]
 pub struct Done {
     pub taken: usize,
     pub len: usize,
+    pub place: usize,
     pub answer: u8,
 }
 
@@ -36,6 +38,7 @@ pub fn finish(s: Served, taken: usize) -> Done
     Done {
         taken,
         len: s.len,
+        place: s.place,
         answer: s.answer,
     }
 }
@@ -90,11 +93,12 @@ fn judge_part(
 
 // Bytes that ended no frame.
 fn quiet(answer: u8, taken: usize) -> Done
-    ensures { λ r. ⌜ r ≡ record { answer = answer; taken = taken; len = 0 } ⌝ }
+    ensures { λ r. ⌜ r ≡ record { answer = answer; taken = taken; place = 0; len = 0 } ⌝ }
 {
     Done {
         taken,
         len: 0,
+        place: 0,
         answer,
     }
 }

@@ -84,10 +84,10 @@ collect-fits c b o =
 
 -- and is read as it was sent
 read-back : (e : Effect) (b : Board) (o₀ o : List ℕ) (r : Done) → Answers e b o₀ o r → length (e .did .reply) ≤ length o₀ → readOf r o ≡ replyOf (e .did)
-read-back e b o₀ o r A h = rw (A .gives, A .leaves) (ap (reply (e .did .answer)) (put-here 0 (e .did .reply) o₀ (omega arith)))
+read-back e b o₀ o r A h = rw (A .gives, A .leaves) (ap (reply (e .did .answer) (e .did .place)) (put-here 0 (e .did .reply) o₀ (omega arith)))
 
 -- of a call that lends none, there is nothing to read
-unread : (d : Did) → d .reply ≡ [] → reply (d .answer) (take (length (d .reply)) []) ≡ replyOf d
+unread : (d : Did) → d .reply ≡ [] → reply (d .answer) (d .place) (take (length (d .reply)) []) ≡ replyOf d
 unread d e = rw e
 
 -- THE CONTRACTS. a holds the arguments in their order, r is the answer, s the arguments after the call

@@ -233,7 +233,7 @@ event-fits (collect c room) t f = collect-cases c (t .board) room (λ d. Fit (d 
 
 obeyed-fits : (c : ℕ) (s : List ℕ) → Bytes s → (o : Order) (b : Board) → Fit b → Fit (obeyed c s o b .board)
 unfolding obeyed monitorSet clockTold
-obeyed-fits c s h (Refused n) b f = f
+obeyed-fits c s h (Refused n place) b f = f
 obeyed-fits c s h Clock b f = f
 obeyed-fits c s h Monitor b f = f
 obeyed-fits c s h Usage b f = f

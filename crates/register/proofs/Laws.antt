@@ -1,6 +1,7 @@
 -- The named laws of demand 2, over the definitions that the entry points' contracts cite.
 --     clock-alone          a Set clock message changes the clock and nothing else
---     refused-untouched    an answer 3 to 14 leaves every word of the board as it was, and sends nothing
+--     refused-untouched    an answer from 3 on leaves every word of the board as it was, and sends nothing
+--     placed-calls         10 is never answered, and only 20, 21 and 22 have a place
 --     refused-event        a refused event changes nothing at all
 --     refused-piece        a piece that is refused before any byte, with 3 or 4, changes nothing at all
 --     time-adds            d ms in one call are d calls of 1 ms
@@ -29,12 +30,15 @@ use Rattle.pulses.specs.Pulses.{shortRow, elapsed}
 use Rattle.ring.specs.Ring.{rowAfter}
 use Rattle.judges.specs.declared.Order.{Order}
 use Rattle.judges.specs.declared.Order.the-variants.{Refused, SetClock}
-use Rattle.judges.specs.Judges.{judgeSetClock}
+use Rattle.layouts.specs.Layouts.{fields, layoutIn}
+use Rattle.layouts.specs.declared.Reach.{Reach}
+use Rattle.layouts.specs.declared.Reach.the-variants.{To, Broken}
+use Rattle.judges.specs.Judges.{ofReach, ifSized, judgeSetClock}
 use Rattle.orders.specs.Orders.{setClockOf, orderOf}
 use Rattle.marks.specs.Marks.{withDue}
 use Rattle.plain.specs.Events.{leveled, timePassed, monitorSent, collected}
 use Rattle.connections.specs.Lines.{connected, closed}
-use Rattle.answers.specs.Calls.{Did, did, refused}
+use Rattle.answers.specs.Calls.{Did, did, refused, refusedAt}
 use Rattle.serving.specs.Obeying.{clockTold, obeyed}
 use Rattle.serving.specs.Serving.{servedContent, servedMessage}
 use Rattle.halves.specs.Halves.{Halves}
@@ -42,26 +46,26 @@ use Rattle.pieces.specs.Pieces.{answered, fed, bytesCall}
 use Rattle.board.specs.Calls.{passCall}
 use Rattle.demand.specs.Demand.{Call, bytes, other}
 use Rattle.register.specs.Box.{Event, level, pass, connect, close, collect, Tables, happens, on, whose, served, beforeBytes, Held, held, tablesOf, effectOf, halvesOf, boxCall}
-use Rattle.register.specs.Laws.{TypeSeven, ButClock, Untouched, isOf, callOn, Kept}
+use Rattle.register.specs.Laws.{TypeSeven, ButClock, Untouched, Placed, isOf, callOn, Kept}
 use Rattle.register.proofs.Cases.{frame-cases, bytes-cases, connect-cases, close-cases, collect-cases}
 use Rattle.register.proofs.Touching.{level-event, pass-event, collect-touches}
-use Rattle.register.proofs.Numbers.{Judged, serves, refuses, level-judged, message-judged, judged-answers}
+use Rattle.register.proofs.Numbers.{Judged, serves, refuses, unplaced, level-judged, message-judged, judged-answers, judged-placed}
 use Rattle.register.proofs.BoxCalls.{row-same, bytes-touches, bytes-half-apart, bytes-room-apart, left-apart, left-refused, connect-apart, close-apart}
 
 -- CLOCK ALONE. What a content of type 7 orders: the clock, or nothing
 data ForClock : Order → Type 0 where
   sets : (v : ℕ) → ForClock (SetClock v)
-  refuses-it : (n : ℕ) → ForClock (Refused n)
+  refuses-it : (n place : ℕ) → ForClock (Refused n place)
 
 seven-orders : (s : List ℕ) (rank : ℕ) → TypeSeven s → ForClock (orderOf s rank)
-unfolding orderOf setClockOf judgeSetClock
-seven-orders s rank h = rw h (go (eqb (length s) 0) (ltb rank 2) (eqb (length s) 9))
+unfolding orderOf setClockOf judgeSetClock ifSized ofReach
+seven-orders s rank h = rw h (go (eqb (length s) 0) (ltb rank 2) (layoutIn (length s) (fields 9 ∷ [])))
   where
-    go : (none low right : Bool) → ForClock (cond none (Refused 8) (cond low (Refused 9) (cond right (SetClock (numberAt s 1 8)) (Refused 10))))
-    go true low right = refuses-it 8
-    go false true right = refuses-it 9
-    go false false true = sets (numberAt s 1 8)
-    go false false false = refuses-it 10
+    go : (none low : Bool) (reach : Reach) → ForClock (cond none (Refused 8 0) (cond low (Refused 9 0) (ofReach reach (SetClock (numberAt s 1 8)))))
+    go true low reach = refuses-it 8 0
+    go false true reach = refuses-it 9 0
+    go false false (To at) = sets (numberAt s 1 8)
+    go false false (Broken n place) = refuses-it n place
 
 untimed : (b : Board) → ButClock b b
 untimed b = record { rows = λ n h. refl; words = λ j h. refl }
@@ -82,7 +86,7 @@ clock-told v b =
 clock-obeyed : (c : ℕ) (s : List ℕ) (o : Order) (b : Board) → ForClock o → ButClock b (obeyed c s o b .board)
 unfolding obeyed clockTold
 clock-obeyed c s o b (sets v) = clock-told v b
-clock-obeyed c s o b (refuses-it n) = untimed b
+clock-obeyed c s o b (refuses-it n place) = untimed b
 
 clock-message : (c sum : ℕ) (s : List ℕ) (b : Board) → TypeSeven s → ButClock b (servedMessage c (frame sum s) b .board)
 unfolding servedContent
@@ -108,12 +112,12 @@ time-adds d row b = by-cases (shortRow (length row)) (λ s. rw s (sym (nothing-p
 
 -- REFUSED, UNTOUCHED. What was refused is known by its number
 abbrev RefusedSo : Board → Did → Type 0
-RefusedSo p d = 3 ≤ d .answer → d ≡ refused (d .answer) p
+RefusedSo p d = 3 ≤ d .answer → d ≡ refusedAt (d .answer) (d .place) p
 
 module _ (p : Board) where
   judged-so : (d : Did) → Judged p d → RefusedSo p d
-  judged-so d (serves e) h = absurd (omega arith)
-  judged-so d (refuses n a) h = refl
+  judged-so d (serves e f) h = absurd (omega arith)
+  judged-so d (refuses n place a w) h = refl
 
   connect-so : (c rank strict : ℕ) → RefusedSo p (connected c rank strict p)
   connect-so c rank strict = connect-cases c p rank strict (RefusedSo p) (λ h. refl) (λ h. refl) (λ h. refl) (λ u h. absurd (omega arith))
@@ -155,9 +159,47 @@ call-so x (other e) = event-so e (tablesOf x)
 
 pub refused-untouched : (x : Held) (k : Call served) → 3 ≤ effectOf x k .did .answer → Untouched (x .board) (effectOf x k)
 refused-untouched x k h =
-    let e : effectOf x k .did ≡ refused (effectOf x k .did .answer) (x .board) = call-so x k h in
+    let e : effectOf x k .did ≡ refusedAt (effectOf x k .did .answer) (effectOf x k .did .place) (x .board) = call-so x k h in
     let silent : effectOf x k .did .reply ≡ [] = ap (λ (d : Did). d .reply) e in
     record { board = ap (λ (d : Did). d .board) e; silent = silent; buffer = λ o. ap (λ (vs : List ℕ). put 0 vs o) silent ∙ put-none 0 o }
+
+-- PLACED. Every answer but the three has the place 0, and 10 is none of them
+module _ (p : Board) where
+  connect-placed : (c rank strict : ℕ) → Placed (connected c rank strict p)
+  connect-placed c rank strict =
+      connect-cases c p rank strict Placed (unplaced refl refl) (unplaced refl refl) (unplaced refl refl) (λ u. unplaced refl refl)
+
+  close-placed : (c : ℕ) → Placed (closed c p)
+  close-placed c = close-cases c p Placed (unplaced refl refl) (λ u. unplaced refl refl)
+
+  collect-placed : (c room : ℕ) → Placed (collected c room p)
+  unfolding monitorSent
+  collect-placed c room =
+      collect-cases c p room Placed (unplaced refl refl) (unplaced refl refl) (unplaced refl refl) (λ v. unplaced refl refl)
+
+  answered-placed : (c : ℕ) (o : Option Got) → Placed (answered c o p)
+  answered-placed c none = unplaced refl refl
+  answered-placed c (some g) = judged-placed p (servedMessage c g p) (message-judged p c g)
+
+pass-placed : (d : ℕ) (row : List Pulse) (p : Board) → Placed (timePassed d row p)
+unfolding timePassed
+pass-placed d row p = by-cases (shortRow (length row)) (λ e. rw e (unplaced refl refl)) (λ e. rw e (unplaced refl refl))
+
+event-placed : (e : Event) (t : Tables) → Placed (happens e t)
+event-placed (level k v) t = judged-placed (t .board) (leveled k v (t .board)) (level-judged (t .board) k v)
+event-placed (pass d) t = pass-placed d (t .row) (t .board)
+event-placed (connect c rank strict) t = connect-placed (t .board) c rank strict
+event-placed (close c) t = close-placed (t .board) c
+event-placed (collect c room) t = collect-placed (t .board) c room
+
+pub placed-calls : (x : Held) (k : Call served) → Placed (effectOf x k .did)
+placed-calls x (bytes c room piece) =
+    bytes-cases c room (length (x .row)) piece (x .board) (x .halves) (x .rooms) (λ e hs rs. Placed (e .did)) (unplaced refl refl) (unplaced refl refl)
+    (λ v. answered-placed (x .board) c (gotOf (ρ .room) (ρ .fed .outcome)))
+  where
+    ρ : Run
+    ρ = fed c piece (x .halves) (x .rooms)
+placed-calls x (other e) = event-placed e (tablesOf x)
 
 -- REFUSED WHOLE. A refused event drops no half-read message either
 pub refused-event : (x : Held) (e : Event) → 3 ≤ effectOf x (other e) .did .answer → boxCall x (other e) .0 ≡ x

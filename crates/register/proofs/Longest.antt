@@ -17,7 +17,8 @@ use Rattle.frames.proofs.Sealing.{true-sum}
 use Rattle.rows.specs.Places.{Board, lineAt}
 use Rattle.devices.specs.Devices.{deviceOf}
 use Rattle.judges.specs.declared.Order.the-variants.{Read}
-use Rattle.judges.specs.Judges.{judgeRead}
+use Rattle.layouts.specs.Layouts.{onward, finished}
+use Rattle.judges.specs.Judges.{ofReach, ifListed, judgeRead}
 use Rattle.orders.specs.Orders.{readOf, orderOf}
 use Rattle.readings.specs.Readings.{inputBlock, blockOf, entryOf, idsIn, devicesReply}
 use Rattle.connections.specs.Lines.{isStrict}
@@ -70,7 +71,7 @@ abbrev asking : List ℕ
 asking = 0x15 ∷ 0x00 ∷ 0x7F ∷ asked 127
 
 asks : (rank : ℕ) → 1 ≤ rank → orderOf asking rank ≡ Read 127
-unfolding orderOf readOf judgeRead numberAt fits
+unfolding orderOf readOf judgeRead ifListed ofReach onward finished numberAt fits
 asks rank h = rw (length-asked 127, le-ltb rank 1 h)
 
 pub longest-reached : (c : ℕ) (p : Board) → 1 ≤ lineAt c p .rank

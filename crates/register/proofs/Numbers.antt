@@ -1,7 +1,7 @@
--- What a message's answer number says: 1 where it is served; else nothing changed, nothing is sent, and the number is none of 0, 3 and 4.
-use mathlib.Core.Path.{_≡_, refl}
-use mathlib.Core.Logic.{⊎-elim}
-use mathlib.Core.Bool.{Bool, true, false, cond}
+-- What a message's answer number says: 1 where it is served; else nothing changed, nothing is sent, and the number is none of 0, 3 and 4, nor
+-- 10; and where it has a place.
+use mathlib.Core.Path.{_≡_, refl, sym, _∙_}
+use mathlib.Core.Bool.{Bool, true, false, true≢false, cond}
 use mathlib.Core.List.{List}
 use Prim.Native.Nat.{ℕ}
 use lib.Dec.{eqb, ltb}
@@ -20,36 +20,53 @@ use Rattle.changes.specs.Commands.{blockOf}
 use Rattle.judges.specs.declared.Order.{Order}
 use Rattle.judges.specs.declared.Order.the-variants.{Refused, Clock, Monitor, Usage, MonitorOff, MonitorOn, SetClock, Close, Open, Toggle, ClearCount, ClearInputUsage, ClearRelayUsage, Block, PulseRelay, PulseBlock, Read, Write, Enumerate}
 use Rattle.orders.specs.Orders.{orderOf}
-use Rattle.orders.specs.Ranges.{Refusal}
+use Rattle.layouts.specs.Outcomes.{early, surplus, in-list}
+use Rattle.orders.specs.Ranges.{Refusal, not-offered, low-rank, out-of-range, broken}
 use Rattle.orders.proofs.Orders.{refusals}
 use Rattle.marks.specs.Marks.{marked}
 use Rattle.plain.specs.Events.{changedTo, leveled}
-use Rattle.answers.specs.Calls.{Did, refused, sealing}
+use Rattle.answers.specs.Calls.{Did, refused, refusedAt, sealing}
 use Rattle.serving.specs.Obeying.{monitorSet, clockTold, pulsed, obeyed}
 use Rattle.serving.specs.Serving.{servedContent, servedMessage}
 use Rattle.register.specs.Box.{beforeBytes}
+use Rattle.register.specs.Laws.{isBroken, Placed}
 use Rattle.register.proofs.Cases.{frame-cases}
 
 -- a number that answers a message: not 0, which waits, and not 3 or 4, which refuse a call
 abbrev pub Answering : ℕ → Type 0
 Answering n = (eqb n 0 ≡ false) × (beforeBytes n ≡ false)
 
--- served, or refused whole
+-- served, without a place, or refused whole
 pub data Judged (p : Board) : Did → Type 0 where
-  serves : {d : Did} → d .answer ≡ 1 → Judged p d
-  refuses : (n : ℕ) → Answering n → Judged p (refused n p)
+  serves : {d : Did} → d .answer ≡ 1 → d .place ≡ 0 → Judged p d
+  refuses : (n place : ℕ) → Answering n → Placed (refusedAt n place p) → Judged p (refusedAt n place p)
 
-refusal-answers : (n : ℕ) → Refusal n → Answering n
-refusal-answers n r =
-    ⊎-elim (λ (e : n ≡ 8). rw e (refl, refl))
-    (λ r. ⊎-elim (λ (e : n ≡ 9). rw e (refl, refl)) (λ r. ⊎-elim (λ (e : n ≡ 10). rw e (refl, refl)) (λ (e : n ≡ 11). rw e (refl, refl)) r) r) r
+-- a number that is not 10 has the place 0
+pub unplaced : {d : Did} → eqb (d .answer) 10 ≡ false → d .place ≡ 0 → Placed d
+unplaced t e = record { never-ten = t; else-none = λ _. e }
+
+-- a refusal by its number alone
+plainly : {p : Board} (n : ℕ) → Answering n → eqb n 10 ≡ false → Judged p (refused n p)
+plainly n a t = refuses n 0 a (unplaced t refl)
+
+-- one of the three numbers that have a place
+broken-at : {p : Board} (n place : ℕ) → Answering n → eqb n 10 ≡ false → isBroken n ≡ true → Judged p (refusedAt n place p)
+broken-at n place a t b = refuses n place a (record { never-ten = t; else-none = λ e. absurd (true≢false (sym b ∙ e)) })
+
+refusal-judged : {p : Board} {content : List ℕ} {n place : ℕ} → Refusal content n place → Judged p (refusedAt n place p)
+refusal-judged not-offered = plainly 8 (refl, refl) refl
+refusal-judged low-rank = plainly 9 (refl, refl) refl
+refusal-judged out-of-range = plainly 11 (refl, refl) refl
+refusal-judged (broken early) = broken-at 20 _ (refl, refl) refl refl
+refusal-judged (broken (surplus h)) = broken-at 21 _ (refl, refl) refl refl
+refusal-judged (broken in-list) = broken-at 22 _ (refl, refl) refl refl
 
 module _ (p : Board) where
   -- a change of the tables
   asked : (channel changed : Bool) (after : Board) → Judged p (changedTo (cond channel (tables.served changed after) (tables.refused p)))
   unfolding marked
-  asked true changed after = serves refl
-  asked false changed after = refuses 11 (refl, refl)
+  asked true changed after = serves refl refl
+  asked false changed after = plainly 11 (refl, refl) refl
 
   on-input : (f : Input → Input) (k : ℕ) → Judged p (changedTo (onInput f k p))
   unfolding onInput
@@ -64,52 +81,57 @@ module _ (p : Board) where
   level-judged k v = go (ltb 1 v) (hasLevel k (eqb v 1) p)
     where
       go : (t u : Bool) → Judged p (changedTo (cond t (tables.refused p) (cond u (tables.served false p) (onInput (told (eqb v 1)) k p))))
-      go true u = refuses 11 (refl, refl)
-      go false true = serves refl
+      go true u = plainly 11 (refl, refl) refl
+      go false true = serves refl refl
       go false false = on-input (told (eqb v 1)) k
 
   pulse-judged : (q : Pulse) → Judged p (pulsed q p)
   unfolding pulsed
-  pulse-judged q = by-cases (isFull (queueOf p)) (λ e. rw e (refuses 14 (refl, refl))) (λ e. rw e (serves refl))
+  pulse-judged q = by-cases (isFull (queueOf p)) (λ e. rw e (plainly 14 (refl, refl) refl)) (λ e. rw e (serves refl refl))
 
   module _ (c : ℕ) (s : List ℕ) where
-    obeyed-judged : (o : Order) → ((n : ℕ) → o ≡ Refused n → Refusal n) → Judged p (obeyed c s o p)
+    obeyed-judged : (o : Order) → ((n place : ℕ) → o ≡ Refused n place → Refusal s n place) → Judged p (obeyed c s o p)
     unfolding obeyed monitorSet clockTold blockOf
-    obeyed-judged (Refused n) r = refuses n (refusal-answers n (r n refl))
-    obeyed-judged Clock r = serves refl
-    obeyed-judged Monitor r = serves refl
-    obeyed-judged Usage r = serves refl
-    obeyed-judged MonitorOff r = serves refl
-    obeyed-judged MonitorOn r = serves refl
-    obeyed-judged (SetClock v) r = serves refl
+    obeyed-judged (Refused n place) r = refusal-judged (r n place refl)
+    obeyed-judged Clock r = serves refl refl
+    obeyed-judged Monitor r = serves refl refl
+    obeyed-judged Usage r = serves refl refl
+    obeyed-judged MonitorOff r = serves refl refl
+    obeyed-judged MonitorOn r = serves refl refl
+    obeyed-judged (SetClock v) r = serves refl refl
     obeyed-judged (Close k) r = on-relay _ k
     obeyed-judged (Open k) r = on-relay _ k
     obeyed-judged (Toggle k) r = on-relay _ k
     obeyed-judged (ClearCount k) r = on-input _ k
     obeyed-judged (ClearInputUsage k) r = on-input _ k
     obeyed-judged (ClearRelayUsage k) r = on-relay _ k
-    obeyed-judged (Block mask state) r = serves refl
+    obeyed-judged (Block mask state) r = serves refl refl
     obeyed-judged (PulseRelay k ms) r = pulse-judged (relayPulse k ms)
     obeyed-judged (PulseBlock mask states ms) r = pulse-judged (pulseOf mask states ms)
-    obeyed-judged (Read n) r = serves refl
-    obeyed-judged (Write n) r = serves refl
-    obeyed-judged (Enumerate flags) r = serves refl
+    obeyed-judged (Read n) r = serves refl refl
+    obeyed-judged (Write n) r = serves refl refl
+    obeyed-judged (Enumerate flags) r = serves refl refl
 
   pub message-judged : (c : ℕ) (g : Got) → Judged p (servedMessage c g p)
   unfolding servedMessage servedContent
-  message-judged c keepAlive = refuses 2 (refl, refl)
-  message-judged c stray = refuses 5 (refl, refl)
-  message-judged c tooLong = refuses 6 (refl, refl)
+  message-judged c keepAlive = plainly 2 (refl, refl) refl
+  message-judged c stray = plainly 5 (refl, refl) refl
+  message-judged c tooLong = plainly 6 (refl, refl) refl
   message-judged c (frame sum s) =
       frame-cases c sum s p (Judged p)
-      (sealed (obeyed c s (orderOf s (lineAt c p .rank)) p) (obeyed-judged c s (orderOf s (lineAt c p .rank)) (λ n e. refusals s (lineAt c p .rank) e)))
-      (refuses 7 (refl, refl))
+      (sealed (obeyed c s (orderOf s (lineAt c p .rank)) p) (obeyed-judged c s (orderOf s (lineAt c p .rank)) (λ n place e. refusals s (lineAt c p .rank) e)))
+      (plainly 7 (refl, refl) refl)
     where
       sealed : (d : Did) → Judged p d → Judged p (sealing d)
-      sealed d (serves e) = serves e
-      sealed d (refuses n a) = refuses n a
+      sealed d (serves e f) = serves e f
+      sealed d (refuses n place a w) = refuses n place a w
 
 -- so a message is always answered by a number of its own
 pub judged-answers : (p : Board) (d : Did) → Judged p d → Answering (d .answer)
-judged-answers p d (serves e) = rw e (refl, refl)
-judged-answers p d (refuses n a) = a
+judged-answers p d (serves e f) = rw e (refl, refl)
+judged-answers p d (refuses n place a w) = a
+
+-- and has a place as its number says
+pub judged-placed : (p : Board) (d : Did) → Judged p d → Placed d
+judged-placed p d (serves e f) = unplaced (rw e refl) f
+judged-placed p d (refuses n place a w) = w

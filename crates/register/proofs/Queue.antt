@@ -98,7 +98,7 @@ pulsed-asks p b = by-cases (isFull (queueOf b)) (λ f. rw f (nothing (same b))) 
 
 obeyed-asks : (c : ℕ) (s : List ℕ) (o : Order) (b : Board) → Asked b (obeyed c s o b .board)
 unfolding obeyed monitorSet clockTold
-obeyed-asks c s (Refused n) b = nothing (same b)
+obeyed-asks c s (Refused n place) b = nothing (same b)
 obeyed-asks c s Clock b = nothing (same b)
 obeyed-asks c s Monitor b = nothing (same b)
 obeyed-asks c s Usage b = nothing (same b)

@@ -200,7 +200,7 @@ makes changed b b′ e = quiet (follows changed b b′ e)
 
 obeyed-touches : (c : ℕ) (s : List ℕ) (o : Order) (b : Board) → Touches c b (obeyed c s o b .board)
 unfolding obeyed monitorSet clockTold
-obeyed-touches c s (Refused n) b = still
+obeyed-touches c s (Refused n place) b = still
 obeyed-touches c s Clock b = still
 obeyed-touches c s Monitor b = still
 obeyed-touches c s Usage b = still

@@ -32,20 +32,21 @@ pub data Event : Type 0 where
   close : ℕ → Event
   collect : ℕ → ℕ → Event
 
--- an answer number, and the bytes of the reply
+-- an answer number, its place (02, M-105, 2), and the bytes of the reply
 pub record Reply : Type 0 where
   pub number : ℕ
+  pub place : ℕ
   pub sent : List ℕ
 
-abbrev pub reply : ℕ → List ℕ → Reply
-reply n bs = record { number = n; sent = bs }
+abbrev pub reply : ℕ → ℕ → List ℕ → Reply
+reply n place bs = record { number = n; place = place; sent = bs }
 
 abbrev pub replyOf : Did → Reply
-replyOf d = reply (d .answer) (d .reply)
+replyOf d = reply (d .answer) (d .place) (d .reply)
 
--- 01, Answer numbers, 4, and 02, M-100, 7: a refusal, which has no reply
+-- 01, Answer numbers, 4, and 02, M-100, 7: a refusal, which has no reply; 02, M-105, 2: and, of a call, no place
 abbrev pub refusing : ℕ → Reply
-refusing n = reply n []
+refusing n = reply n 0 []
 
 -- 02, M-100, 5 and 6: all that the plain machine holds is the lent board and, beside it, the lent row of waiting pulses
 pub record Tables : Type 0 where
@@ -193,9 +194,9 @@ run s hs rooms row calls = trace served box (atPowerUp s hs rooms row) calls
 abbrev pub onlooker : Settings → Halves → List ℕ → List Pulse → View served
 onlooker s hs rooms row = begins served box (atPowerUp s hs rooms row)
 
--- what the host reads of a call: the number, and as many bytes of the reply buffer as the reply has; a call without a buffer has no reply
+-- what the host reads of a call: the number, the place, and as many bytes of the reply buffer as the reply has; a call without a buffer has no reply
 abbrev pub readOf : Done → List ℕ → Reply
-readOf r buffer = reply (r .answer) (take (r .len) buffer)
+readOf r buffer = reply (r .answer) (r .place) (take (r .len) buffer)
 
 -- so an entry point's answer, as a step of the box: what was lent, after it, the bytes taken, and what it says
 abbrev pub stepOf : Board → Halves → List ℕ → List Pulse → Done → Said Reply → Held × Answer served

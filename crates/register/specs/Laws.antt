@@ -1,6 +1,7 @@
 -- What the named laws of demand 2 say.
+use Rattle.numbers.specs.Numbers as numbers
 use mathlib.Core.Path.{_≡_}
-use mathlib.Core.Bool.{Bool, false}
+use mathlib.Core.Bool.{Bool, false, _||_}
 use mathlib.Core.List.{List, []}
 use mathlib.Core.Option.{Option, none, some}
 use Prim.Native.Nat.{ℕ, _≤_, _<_}
@@ -13,6 +14,7 @@ use Rattle.steps.specs.Cut.{Got, keepAlive, stray, tooLong, frame}
 use Rattle.rows.specs.Places.{Board, clockRow, rowAt, inputAt, lineAt}
 use Rattle.halves.specs.Halves.{halfAt}
 use Rattle.halves.specs.Rooms.{roomAt}
+use Rattle.answers.specs.Calls.{Did}
 use Rattle.pieces.specs.Effects.{Effect}
 use Rattle.demand.specs.Demand.{Call, bytes, other}
 use Rattle.register.specs.Box.{on, whose, Held, served}
@@ -32,6 +34,15 @@ pub record Untouched (before : Board) (e : Effect) : Type 0 where
   pub board : e .did .board ≡ before
   pub silent : e .did .reply ≡ []
   pub buffer : (o : List ℕ) → put 0 (e .did .reply) o ≡ o
+
+-- 02, M-105, 1: the numbers with which a layout breaks
+abbrev pub isBroken : ℕ → Bool
+isBroken n = eqb n numbers.endsEarly || (eqb n numbers.leftOver || eqb n numbers.listCut)
+
+-- 02, M-105, 1 and 2: 10 is not given, and with every number but those three the place is 0
+pub record Placed (d : Did) : Type 0 where
+  pub never-ten : eqb (d .answer) 10 ≡ false
+  pub else-none : isBroken (d .answer) ≡ false → d .place ≡ 0
 
 -- the call is on connection d: it hands over its bytes, opens or closes it, or collects on it
 abbrev pub isOf : ℕ → Option ℕ → Bool

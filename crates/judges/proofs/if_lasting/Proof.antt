@@ -1,5 +1,6 @@
 -- `judges::if_lasting`: by the test on the duration.
 use Rattle.laws.proofs.Tests.{tests}
+use borrow.Author.Needs.{needs}
 use Rattle.judges.specs.Judges.{ifLasting}
 use Rattle.judges.proofs.if_lasting.Statement.{statement}
 use Rattle.judges.proofs.if_lasting.Tie as tie
@@ -9,5 +10,6 @@ unfolding ifLasting
 if-lasting-spec =
     tie.close
     (tie.spec
-    (λ c. search tests)
+    (λ c κs. search needs)
+    (λ c. search (tests, c .refuse .ensures))
     (λ c. search tests))

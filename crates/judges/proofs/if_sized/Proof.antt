@@ -1,5 +1,6 @@
--- `judges::if_sized`: by the test on the length.
-use Rattle.laws.proofs.Tests.{tests}
+-- `judges::if_sized`: the layout, part by part.
+use mathlib.Core.Path.{_∙_}
+use borrow.Author.Needs.{needs}
 use Rattle.judges.specs.Judges.{ifSized}
 use Rattle.judges.proofs.if_sized.Statement.{statement}
 use Rattle.judges.proofs.if_sized.Tie as tie
@@ -9,5 +10,7 @@ unfolding ifSized
 if-sized-spec =
     tie.close
     (tie.spec
-    (λ c. search tests)
-    (λ c. search tests))
+    (λ c κs. search needs)
+    (λ c κs. search needs)
+    (λ c κs. search needs)
+    (λ c. c .if-there .ensures ∙ rw (c .before .finish .ensures, c .before .before .fields .ensures)))

@@ -1,5 +1,5 @@
--- `judges::judge_set_clock`: by the test on the length.
-use Rattle.laws.proofs.Tests.{tests}
+-- `judges::judge_set_clock`: by its layout.
+use borrow.Author.Needs.{needs}
 use Rattle.judges.specs.Judges.{judgeSetClock}
 use Rattle.judges.proofs.judge_set_clock.Statement.{statement}
 use Rattle.judges.proofs.judge_set_clock.Tie as tie
@@ -9,5 +9,5 @@ unfolding judgeSetClock
 judge-set-clock-spec =
     tie.close
     (tie.spec
-    (λ c. search tests)
-    (λ c. search tests))
+    (λ c κs. search needs)
+    (λ c. c .if-sized .ensures))

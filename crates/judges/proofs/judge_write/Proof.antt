@@ -1,5 +1,5 @@
--- `judges::judge_write`: by the test on the length, then by what is told.
-use Rattle.laws.proofs.Tests.{tests}
+-- `judges::judge_write`: by its layout.
+use borrow.Author.Needs.{needs}
 use Rattle.judges.specs.Judges.{judgeWrite}
 use Rattle.judges.proofs.judge_write.Statement.{statement}
 use Rattle.judges.proofs.judge_write.Tie as tie
@@ -9,6 +9,5 @@ unfolding judgeWrite
 judge-write-spec =
     tie.close
     (tie.spec
-    (λ c. search tests)
-    (λ c. search tests)
-    (λ c. search tests))
+    (λ c κs. search needs)
+    (λ c. c .if-listed .ensures))

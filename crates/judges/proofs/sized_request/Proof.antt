@@ -1,5 +1,6 @@
--- `judges::sized_request`: by the tests on the length.
-use Rattle.laws.proofs.Tests.{tests}
+-- `judges::sized_request`: the layout, part by part.
+use mathlib.Core.Path.{_∙_}
+use borrow.Author.Needs.{needs}
 use Rattle.judges.specs.Judges.{sizedRequest}
 use Rattle.judges.proofs.sized_request.Statement.{statement}
 use Rattle.judges.proofs.sized_request.Tie as tie
@@ -9,6 +10,8 @@ unfolding sizedRequest
 sized-request-spec =
     tie.close
     (tie.spec
-    (λ c. search tests)
-    (λ c. search tests)
-    (λ c. search tests))
+    (λ c κs. search needs)
+    (λ c κs. search needs)
+    (λ c κs. search needs)
+    (λ c κs. search needs)
+    (λ c. c .if-there .ensures ∙ rw (c .before .finish .ensures, c .before .before .optional .ensures, c .before .before .before .fields .ensures)))
