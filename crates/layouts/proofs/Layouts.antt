@@ -1,6 +1,7 @@
 -- Every layout in every content.
 --     layout-outcome     it is there whole, up to the content's last byte, or it breaks with 20, 21 or 22 and the place that each has
 --     fields-and-list    where fields and a list are there whole, their bytes are the content's
+--     fields-whole       fields of the content's length are there whole
 --     list-early, list-cut, list-over, list-whole    what a count and its list come to, by the content's length
 use mathlib.Core.Path.{_≡_, refl, ap, subst, _∙_}
 use mathlib.Core.Bool.{Bool, true, false, cond}
@@ -106,6 +107,13 @@ module _ (n : ℕ) where
       let first = onward-to 20 front (To 0) (list .1) in
       let none : 0 ≡ n - size - front = same-place (first .1) in
       omega (arith, list .0, first .0)
+
+-- ---- fields alone, of the content's own length
+
+pub fields-whole : (n : ℕ) → layoutIn n (fields n ∷ []) ≡ To n
+fields-whole n =
+    let end : 0 + n ≡ n = omega arith in
+    ap (finished n) (onward-there 20 n n 0 (omega arith)) ∙ ap (λ (at : ℕ). finished n (To at)) end ∙ finished-there n
 
 -- ---- a count and its list, by the content's length: one of the four comes to each
 
