@@ -48,7 +48,7 @@ brokenRead =
     broken (0x15 ∷ 0x00 ∷ []) 20 2 ∷ broken (0x15 ∷ 0x00 ∷ 0x02 ∷ []) 22 3 ∷
     broken (0x15 ∷ 0x00 ∷ 0x02 ∷ inputOne ++ (0 ∷ 0 ∷ 0 ∷ 0 ∷ [])) 22 15 ∷ broken (0x15 ∷ 0x00 ∷ 0x00 ∷ 0 ∷ []) 21 3 ∷ []
 
--- of WriteDevices the second entry is cut in its length, and in its block; a byte is behind the last
+-- 02, M-105, 1 and 2: of WriteDevices the second entry is cut in its length, and in its block; a byte is behind the last
 abbrev pub brokenWrite : List Row
 brokenWrite =
     broken (0x17 ∷ 0x00 ∷ 0x02 ∷ clearing ++ inputOne ++ (0x00 ∷ [])) 22 23 ∷
