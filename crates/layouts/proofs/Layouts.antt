@@ -1,15 +1,16 @@
 -- Every layout in every content.
 --     layout-outcome     it is there whole, up to the content's last byte, or it breaks with 20, 21 or 22 and the place that each has
---     fields-and-list    where fields and a list are there whole, their bytes are the content's
 --     fields-whole       fields of the content's length are there whole
 --     list-early, list-cut, list-over, list-whole    what a count and its list come to, by the content's length
-use mathlib.Core.Path.{_≡_, refl, ap, subst, _∙_}
+--     fields-and-list    so where they are there whole, their bytes are the content's
+use mathlib.Core.Path.{_≡_, refl, sym, ap, subst, _∙_}
 use mathlib.Core.Bool.{Bool, true, false, cond}
 use mathlib.Core.List.{List, [], _∷_}
-use Prim.Native.Nat.{ℕ, _+_, _-_, _≤_, _<_}
+use Prim.Native.Nat.{ℕ, _+_, _≤_, _<_}
 use native.Mathlib.Omega.{arith}
 use borrow.Author.Tests.{leb-true, ltb-true, ltb-false}
 use lib.Dec.{leb, ltb}
+use Rattle.laws.proofs.Tests.{by-cases}
 use Rattle.layouts.specs.Layouts.{Part, fields, optional, entries, onward, optionally, partOf, partsOf, finished, layoutIn}
 use Rattle.layouts.specs.Outcomes.{Outcome, whole, early, surplus, in-list}
 use Rattle.layouts.proofs.Reaching.{onward-there, onward-cut, finished-over, finished-there}
@@ -68,46 +69,6 @@ module _ (n : ℕ) where
   pub layout-outcome : (layout : List Part) → Outcome n (layoutIn n layout)
   layout-outcome layout = at-its-end (parts-go layout (To 0) (at-place 0 (omega arith)))
 
--- ---- a layout that is there whole, from its end back to its beginning
-
--- the numbers of two places that are one
-same-place : {at at′ : ℕ} → To at ≡ To at′ → at ≡ at′
-same-place e = cc
-
-never-to : {number place at : ℕ} {A : Type 0} → Broken number place ≡ To at → A
-never-to e = let z : _≡_ {A = ℕ} 0 1 = cc in absurd (omega arith)
-
-module _ (n : ℕ) where
-  finished-to : {at : ℕ} (reach : Reach) → finished n reach ≡ To at → reach ≡ To at
-  unfolding finished
-  finished-to {at} (To place) e = go (ltb place n) e
-    where
-      go : (b : Bool) → cond b (Broken 21 place) (To place) ≡ To at → To place ≡ To at
-      go true e = never-to e
-      go false e = e
-  finished-to (Broken number place) e = e
-
-  -- so many bytes before its place
-  onward-to : {at : ℕ} (number size : ℕ) (reach : Reach) → onward number n size reach ≡ To at → (size ≤ at) × (reach ≡ To (at - size))
-  unfolding onward
-  onward-to {at} number size (To place) e = go (leb (place + size) n) e
-    where
-      go : (b : Bool) → cond b (To (place + size)) (Broken number n) ≡ To at → (size ≤ at) × (To place ≡ To (at - size))
-      go true e =
-          let s : place + size ≡ at = same-place e in
-          let before : place ≡ at - size = omega arith in
-          (omega arith, ap To before)
-      go false e = never-to e
-  onward-to number size (Broken first place) e = never-to e
-
-  -- fields and a list: their bytes are the content's
-  pub fields-and-list : (front size : ℕ) → layoutIn n (fields front ∷ entries size ∷ []) ≡ To n → front + size ≡ n
-  fields-and-list front size e =
-      let list = onward-to 22 size (onward 20 n front (To 0)) (finished-to (onward 22 n size (onward 20 n front (To 0))) e) in
-      let first = onward-to 20 front (To 0) (list .1) in
-      let none : 0 ≡ n - size - front = same-place (first .1) in
-      omega (arith, list .0, first .0)
-
 -- ---- fields alone, of the content's own length
 
 pub fields-whole : (n : ℕ) → layoutIn n (fields n ∷ []) ≡ To n
@@ -142,3 +103,14 @@ module _ (n front size : ℕ) where
   list-whole h =
       let end : 0 + front + size ≡ n = omega arith in
       list-there (omega arith) ∙ ap (λ (at : ℕ). finished n (To at)) end ∙ finished-there n
+
+  -- so where they are there whole, their bytes are the content's
+  pub fields-and-list : layoutIn n (fields front ∷ entries size ∷ []) ≡ To n → front + size ≡ n
+  fields-and-list e =
+      by-cases (ltb n front) (λ t. never-to (sym (list-early (ltb-true n front t)) ∙ e))
+      (λ f. by-cases (ltb n (front + size)) (λ t. never-to (sym (list-cut (ltb-false n front f) (ltb-true n (front + size) t)) ∙ e))
+      (λ g. by-cases (ltb (front + size) n) (λ t. never-to (sym (list-over (ltb-true (front + size) n t)) ∙ e))
+      (λ h. omega (arith, ltb-false n (front + size) g, ltb-false (front + size) n h))))
+    where
+      never-to : {number place at : ℕ} {A : Type 0} → Broken number place ≡ To at → A
+      never-to w = let z : _≡_ {A = ℕ} 0 1 = cc in absurd (omega arith)
