@@ -38,6 +38,16 @@ static inline void engine_pass(engine *e, const engine_pulse *row, size_t record
     e->answer = peer_pass(&e->box, row, records, d);
 }
 
+static inline void engine_fill(engine *e, const engine_pulse *row, size_t records, uint8_t place)
+{
+    e->answer = peer_fill(&e->box, row, records, place);
+}
+
+static inline void engine_empty(engine *e, engine_pulse *row, size_t records, uint8_t place)
+{
+    e->answer = peer_empty(&e->box, row, records, place);
+}
+
 static inline void engine_connect(engine *e, uint8_t c, uint8_t rank, uint8_t strict)
 {
     e->answer = peer_connect(&e->box, c, rank, strict);
@@ -95,8 +105,13 @@ static inline wellacorn_board engine_board(const engine *e)
             .usage = in->usage,
             .usage_setpoint = in->usage_setpoint,
         };
+    }
+    for (int k = 0; k < WELLACORN_RELAYS; k++) {
         const peer_relay *relay = &t->relays[k];
         b.relays[k] = (wellacorn_relay){.closed = relay->closed, .usage = relay->usage, .usage_setpoint = relay->usage_setpoint};
+    }
+    for (int p = 0; p < WELLACORN_PLACES; p++) {
+        b.places[p] = (wellacorn_place){.filled = t->present >> (WELLACORN_CHANNELS + 4 * p) & 1};
     }
     for (int c = 0; c < WELLACORN_CONNECTIONS; c++) {
         const peer_line *line = &e->box.connections[c].line;
@@ -106,6 +121,7 @@ static inline wellacorn_board engine_board(const engine *e)
             .monitor = line->monitor,
             .due = line->due,
             .strict = line->strict,
+            .external = line->external,
         };
     }
     return b;
@@ -145,6 +161,16 @@ static inline void engine_level(engine *e, uint8_t k, uint8_t v)
 static inline void engine_pass(engine *e, const engine_pulse *row, size_t records, uint32_t d)
 {
     e->answer = wellacorn_pass(&e->board, row, records, d).answer;
+}
+
+static inline void engine_fill(engine *e, const engine_pulse *row, size_t records, uint8_t place)
+{
+    e->answer = wellacorn_fill(&e->board, row, records, place).answer;
+}
+
+static inline void engine_empty(engine *e, engine_pulse *row, size_t records, uint8_t place)
+{
+    e->answer = wellacorn_empty(&e->board, row, records, place).answer;
 }
 
 static inline void engine_connect(engine *e, uint8_t c, uint8_t rank, uint8_t strict)

@@ -13,6 +13,7 @@ enum {
 
 enum type {
     MONITOR = 1,
+    EXTERNAL_MONITOR = 2,
     REQUEST = 5,
     CLOCK = 6,
     SET_CLOCK = 7,
@@ -127,32 +128,42 @@ static size_t seal(uint8_t *reply, size_t n)
     return HEADER + n;
 }
 
-/* ---- Tables */
+/* ---- Tables. Several relays are a number, lowest bit relay 1, and what really changed is told by such a number. */
 
-/* 01, Events, 6: after a real change, to every open connection that has a rank above 0 and Monitor on. */
-static void mark_due(peer_box *box)
+enum { FIRST_DECK = 0x00FF };   /* relays 1 to 8; a level that changed is told by it too */
+
+static bool has_module(const peer_tables *tables)
 {
+    return tables->present != FIRST_DECK;
+}
+
+/* 01, Events, 6: after a real change, to every open connection that has a rank above 0 and Monitor on. 02, M-102, 4 and 6: the second deck's relays do
+ * not mark the Monitor message; any change marks the External Monitor message, while there is a module. */
+static void mark_due(peer_box *box, unsigned changed)
+{
+    bool inner = (changed & FIRST_DECK) != 0, external = has_module(&box->tables);
     for (int c = 0; c < WELLACORN_CONNECTIONS; c++) {
         peer_line *line = &box->connections[c].line;
-        line->due |= line->is_open & (line->rank != 0) & line->monitor;
+        bool listens = line->is_open & (line->rank != 0) & line->monitor;
+        line->due |= listens & inner;
+        line->external |= listens & external;
     }
 }
 
-/* Says whether the state really changed. */
-static bool put_relay(peer_relay *relay, bool closed)
+static unsigned put_relay(peer_relay *relays, unsigned k, bool closed)
 {
-    bool changed = relay->closed != closed;
-    relay->closed = closed;
-    return changed;
+    unsigned changed = relays[k].closed != closed;
+    relays[k].closed = closed;
+    return changed << k;
 }
 
 /* 01, Messages, 10, 3: a relay that is not masked stays. */
-static bool change_block(peer_relay *relays, unsigned mask, unsigned state)
+static unsigned change_block(peer_relay *relays, unsigned mask, unsigned state)
 {
-    bool changed = false;
-    for (int k = 0; k < WELLACORN_CHANNELS; k++) {
+    unsigned changed = 0;
+    for (unsigned k = 0; k < WELLACORN_RELAYS; k++) {
         if (mask >> k & 1) {
-            changed |= put_relay(&relays[k], state >> k & 1);
+            changed |= put_relay(relays, k, state >> k & 1);
         }
     }
     return changed;
@@ -181,25 +192,25 @@ static uint8_t alarm_at_or_above(uint64_t number, uint64_t setpoint)
     return (setpoint != 0) & (number >= setpoint);
 }
 
-/* ---- Pulses. 02, M-100, 3: beginning and end are two changes, so both say whether a relay really changed. */
+/* ---- Pulses. 02, M-100, 3: beginning and end are two changes, so both say which relays really changed. */
 
-static bool begin_pulse(peer_box *box, const peer_pulse *pulse)
+static unsigned begin_pulse(peer_box *box, const peer_pulse *pulse)
 {
     peer_relay *relays = box->tables.relays;
     unsigned remembered = 0;
-    for (int k = 0; k < WELLACORN_CHANNELS; k++) {
+    for (int k = 0; k < WELLACORN_RELAYS; k++) {
         remembered |= (unsigned)relays[k].closed << k;
     }
-    box->queue.remembered = (uint8_t)remembered;
+    box->queue.remembered = (uint16_t)remembered;
     box->queue.left = pulse->duration;
     return change_block(relays, pulse->mask, pulse->states);
 }
 
 /* The running pulse ends, and the next begins, if one waits. */
-static bool end_pulse(peer_box *box, const peer_pulse *row)
+static unsigned end_pulse(peer_box *box, const peer_pulse *row)
 {
     peer_queue *queue = &box->queue;
-    bool changed = change_block(box->tables.relays, row[queue->first].mask, queue->remembered);
+    unsigned changed = change_block(box->tables.relays, row[queue->first].mask, queue->remembered);
     queue->first = queue->first == WELLACORN_PULSES - 1 ? 0 : queue->first + 1;
     queue->standing--;
     if (queue->standing > 0) {
@@ -211,17 +222,18 @@ static bool end_pulse(peer_box *box, const peer_pulse *row)
     return changed;
 }
 
-/* ---- Devices: inputs at 0 to 7, relays at 8 to 15 */
+/* ---- Devices: inputs at 0 to 7, relays at 8 to 23 */
 
-enum { DEVICES = 2 * WELLACORN_CHANNELS, UNKNOWN = -1 };
+enum { DEVICES = WELLACORN_CHANNELS + WELLACORN_RELAYS, UNKNOWN = -1 };
 
-/* 01, Messages, IDs: from the low end on FF, the channel, and 1 for a relay. */
+/* 01, Messages, IDs: from the low end on FF, the channel, and 1 for a relay. 02, M-102, 9: the second deck's go on in that way. */
 static uint64_t id_of(unsigned device)
 {
     unsigned k = device < WELLACORN_CHANNELS ? 0x01 + device : 0x0101 + device - WELLACORN_CHANNELS;
     return (uint64_t)k << 8 | 0xFF;
 }
 
+/* 02, M-102, 9: to reading and writing the second deck's are as unknown, whether their module is there or not. */
 static int device_of(uint64_t id)
 {
     uint64_t k = id >> 8;
@@ -264,6 +276,34 @@ static uint8_t *put_monitor(uint8_t *p, const peer_tables *tables)
         p = put8(p, tables->relays[k].closed);
     }
     return put64(p, tables->clock);
+}
+
+/* 02, M-102, 5: the present outputs, rising. 001: before them the number of inputs, of which there are none. */
+static uint8_t *put_external_monitor(uint8_t *p, const peer_tables *tables)
+{
+    p = put8(p, EXTERNAL_MONITOR);
+    p = put8(p, 0);
+    uint8_t *count = p++;
+    for (int k = WELLACORN_CHANNELS; k < WELLACORN_RELAYS; k++) {
+        if (tables->present >> k & 1) {
+            p = put8(p, tables->relays[k].closed);
+        }
+    }
+    put8(count, (uint8_t)(p - count - 1));
+    return put64(p, tables->clock);
+}
+
+/* Both as whole frames: each gives its length. */
+static size_t monitor_frame(uint8_t *frame, const peer_tables *tables)
+{
+    const uint8_t *end = put_monitor(frame + HEADER, tables);
+    return seal(frame, (size_t)(end - frame) - HEADER);
+}
+
+static size_t external_frame(uint8_t *frame, const peer_tables *tables)
+{
+    const uint8_t *end = put_external_monitor(frame + HEADER, tables);
+    return seal(frame, (size_t)(end - frame) - HEADER);
 }
 
 static uint8_t *put_clock(uint8_t *p, const peer_tables *tables)
@@ -327,7 +367,8 @@ static uint8_t list_cut(peer_box *box, size_t n)
     return WELLACORN_LIST_CUT;
 }
 
-/* ---- Messages. Each is given its content of n bytes and writes a reply's content to *end on, which it moves behind it. */
+/* ---- Messages. Each is given its content of n bytes and writes a reply's content to *end on, which it moves behind it. A frame that comes behind
+ * the reply's own is written whole, and counts in the box's `len` already. */
 
 static uint8_t request(peer_box *box, peer_line *line, const uint8_t *content, size_t n, uint8_t **end)
 {
@@ -349,13 +390,16 @@ static uint8_t request(peer_box *box, peer_line *line, const uint8_t *content, s
         break;
     case 1:
         *end = put_monitor(*end, &box->tables);
+        if (has_module(&box->tables)) {
+            box->len = external_frame(*end, &box->tables);
+        }
         break;
     case 2:
         *end = put_usages(*end, &box->tables);
         break;
     case 4:
         line->monitor = false;
-        line->due = false;
+        line->due = line->external = false;
         break;
     default:
         line->monitor = true;
@@ -390,6 +434,12 @@ static bool is_channel(unsigned channel)
     return channel >= 1 && channel <= WELLACORN_CHANNELS;
 }
 
+/* 02, M-102, 12: a relay whose module is absent is none. */
+static bool is_relay(const peer_tables *tables, unsigned channel)
+{
+    return channel >= 1 && channel <= WELLACORN_RELAYS && (tables->present >> (channel - 1) & 1);
+}
+
 /* A pulse of one relay closes it. */
 static uint8_t ask_pulse(peer_box *box, peer_pulse *row, const uint8_t *content, size_t n)
 {
@@ -401,10 +451,10 @@ static uint8_t ask_pulse(peer_box *box, peer_pulse *row, const uint8_t *content,
     peer_pulse asked = {.mask = content[2], .states = content[3], .duration = get32(content + 4)};
     if (content[1] == PULSE) {
         unsigned channel = get16(content + 2);
-        if (!is_channel(channel)) {
+        if (!is_relay(&box->tables, channel)) {
             return WELLACORN_OUT_OF_RANGE;
         }
-        asked.mask = asked.states = (uint8_t)(1u << (channel - 1));
+        asked.mask = asked.states = (uint16_t)(1u << (channel - 1));
     }
     if (asked.duration == 0) {
         return WELLACORN_OUT_OF_RANGE;
@@ -414,31 +464,39 @@ static uint8_t ask_pulse(peer_box *box, peer_pulse *row, const uint8_t *content,
     }
     row[(queue->first + queue->standing) % WELLACORN_PULSES] = asked;
     queue->last = asked;
-    if (queue->standing++ == 0 && begin_pulse(box, &asked)) {
-        mark_due(box);
+    unsigned changed = queue->standing++ == 0 ? begin_pulse(box, &asked) : 0;
+    if (changed) {
+        mark_due(box, changed);
     }
     return WELLACORN_SERVED;
 }
 
-/* Says whether a relay really changed. */
-static bool act_on(peer_input *in, peer_relay *relay, unsigned action)
+/* 02, M-102, 2 and 3: only the actions that switch a relay have the second deck's. */
+static bool can_act_on(const peer_tables *tables, unsigned channel, unsigned action)
 {
+    return action <= TOGGLE ? is_relay(tables, channel) : is_channel(channel);
+}
+
+/* Says whether the relay really changed. */
+static unsigned act_on(peer_tables *tables, unsigned k, unsigned action)
+{
+    peer_relay *relays = tables->relays;
     switch (action) {
     case CLOSE:
-        return put_relay(relay, true);
+        return put_relay(relays, k, true);
     case OPEN:
-        return put_relay(relay, false);
+        return put_relay(relays, k, false);
     case TOGGLE:
-        return put_relay(relay, !relay->closed);
+        return put_relay(relays, k, !relays[k].closed);
     case CLEAR_COUNT:
-        in->count = 0;
-        return false;
+        tables->inputs[k].count = 0;
+        return 0;
     case CLEAR_INPUT_USAGE:
-        in->usage = 0;
-        return false;
+        tables->inputs[k].usage = 0;
+        return 0;
     default:
-        relay->usage = 0;
-        return false;
+        relays[k].usage = 0;
+        return 0;
     }
 }
 
@@ -457,18 +515,18 @@ static uint8_t command(peer_box *box, peer_pulse *row, const uint8_t *content, s
     if (n != 4) {
         return wrong_length(box, n, 4);
     }
-    bool changed = false;
+    unsigned changed = 0;
     if (action == BLOCK) {
         changed = change_block(box->tables.relays, content[2], content[3]);
     } else {
         unsigned channel = get16(content + 2);
-        if (!is_channel(channel)) {
+        if (!can_act_on(&box->tables, channel, action)) {
             return WELLACORN_OUT_OF_RANGE;
         }
-        changed = act_on(&box->tables.inputs[channel - 1], &box->tables.relays[channel - 1], action);
+        changed = act_on(&box->tables, channel - 1, action);
     }
     if (changed) {
-        mark_due(box);
+        mark_due(box, changed);
     }
     return WELLACORN_SERVED;
 }
@@ -517,7 +575,7 @@ static bool write_input(peer_input *in, const uint8_t *block, size_t length)
     return true;
 }
 
-static bool write_relay(peer_relay *relay, const uint8_t *block, size_t length, bool *changed)
+static bool write_relay(peer_relay *relays, unsigned k, const uint8_t *block, size_t length, unsigned *changed)
 {
     enum { STATE = 1, RESET_USAGE = 2, ALL = 3 };
 
@@ -532,10 +590,10 @@ static bool write_relay(peer_relay *relay, const uint8_t *block, size_t length, 
         if (length != 2 || block[1] > 1) {
             return false;
         }
-        *changed |= put_relay(relay, block[1]);
+        *changed |= put_relay(relays, k, block[1]);
     }
     if (flags & RESET_USAGE) {
-        relay->usage = 0;
+        relays[k].usage = 0;
     }
     return true;
 }
@@ -570,7 +628,7 @@ static uint8_t write_devices(peer_box *box, const uint8_t *content, size_t n, ui
         return answer;
     }
     /* 01, Events, 8: a change in one entry is not taken back by the next. */
-    bool changed = false;
+    unsigned changed = 0;
     uint16_t written = 0;
     for (size_t at = LIST; at < n;) {
         int device = device_of(get64(content + at));
@@ -581,16 +639,21 @@ static uint8_t write_devices(peer_box *box, const uint8_t *content, size_t n, ui
         } else if (device < WELLACORN_CHANNELS) {
             written += write_input(&box->tables.inputs[device], block, length);
         } else {
-            written += write_relay(&box->tables.relays[device - WELLACORN_CHANNELS], block, length, &changed);
+            written += write_relay(box->tables.relays, (unsigned)device - WELLACORN_CHANNELS, block, length, &changed);
         }
         at += ENTRY + length;
     }
     if (changed) {
-        mark_due(box);
+        mark_due(box, changed);
     }
     *end = put8(*end, DEVICES_WRITTEN);
     *end = put16(*end, written);
     return WELLACORN_SERVED;
+}
+
+static bool is_there(const peer_tables *tables, unsigned device)
+{
+    return device < WELLACORN_CHANNELS || (tables->present >> (device - WELLACORN_CHANNELS) & 1);
 }
 
 static uint8_t enumerate_devices(peer_box *box, const uint8_t *content, size_t n, uint8_t **end)
@@ -604,13 +667,16 @@ static uint8_t enumerate_devices(peer_box *box, const uint8_t *content, size_t n
     if (flags < INTERNAL || flags > ALL) {
         return WELLACORN_OUT_OF_RANGE;
     }
-    uint16_t found = flags & INTERNAL ? DEVICES : 0;
     uint8_t *p = put8(*end, DEVICES_ENUMERATED);
     p = put8(p, content[1]);
-    p = put16(p, found);
-    for (unsigned device = 0; device < found; device++) {
-        p = put64(p, id_of(device));
+    uint8_t *count = p, *ids = p + 2;
+    p = ids;
+    for (unsigned device = 0; flags & INTERNAL && device < DEVICES; device++) {
+        if (is_there(&box->tables, device)) {
+            p = put64(p, id_of(device));
+        }
     }
+    put16(count, (uint16_t)((p - ids) / 8));
     *end = p;
     return WELLACORN_SERVED;
 }
@@ -667,7 +733,7 @@ static uint8_t judge(peer_box *box, peer_line *line, peer_pulse *row, const uint
     uint8_t answer = serve(box, line, row, content, n, &end);
     size_t written = (size_t)(end - reply) - HEADER;
     if (written > 0) {
-        box->len = seal(reply, written);
+        box->len += seal(reply, written);
     }
     return answer;
 }
@@ -677,6 +743,7 @@ static uint8_t judge(peer_box *box, peer_line *line, peer_pulse *row, const uint
 void peer_power_up(peer_box *box, const wellacorn_settings *settings)
 {
     memset(box, 0, sizeof *box);
+    box->tables.present = FIRST_DECK;
     for (int k = 0; k < WELLACORN_CHANNELS; k++) {
         peer_input *in = &box->tables.inputs[k];
         in->setpoint_one = settings->inputs[k].setpoint_one;
@@ -698,7 +765,7 @@ uint8_t peer_level(peer_box *box, uint8_t k, uint8_t v)
         if (v && in->count < UINT32_MAX) {
             in->count++;
         }
-        mark_due(box);
+        mark_due(box, FIRST_DECK);
     }
     return WELLACORN_SERVED;
 }
@@ -720,7 +787,7 @@ static void grow(peer_tables *tables, uint32_t d)
 static uint32_t run_pulses(peer_box *box, const peer_pulse *row, uint32_t d)
 {
     peer_queue *queue = &box->queue;
-    bool changed = false;
+    unsigned changed = 0;
     while (queue->standing > 0 && queue->left <= d) {
         d -= queue->left;
         grow(&box->tables, queue->left);
@@ -730,7 +797,7 @@ static uint32_t run_pulses(peer_box *box, const peer_pulse *row, uint32_t d)
         queue->left -= d;
     }
     if (changed) {
-        mark_due(box);
+        mark_due(box, changed);
     }
     return d;
 }
@@ -745,6 +812,59 @@ uint8_t peer_pass(peer_box *box, const peer_pulse *row, size_t records, uint32_t
     }
     grow(&box->tables, d);
     return WELLACORN_SERVED;
+}
+
+/* 02, M-102, 1: the four relays of a module at this place. */
+static unsigned module_at(uint8_t place)
+{
+    return 0x0F00u << 4 * (place - 1);
+}
+
+/* 02, M-102, 12. */
+static uint8_t judge_place(size_t records, uint8_t place)
+{
+    if (records < WELLACORN_PULSES) {
+        return WELLACORN_SHORT_BUFFER;
+    }
+    return place >= 1 && place <= WELLACORN_PLACES ? WELLACORN_SERVED : WELLACORN_OUT_OF_RANGE;
+}
+
+/* The relays of an empty place are open: an emptying sees to that. */
+uint8_t peer_fill(peer_box *box, const peer_pulse *row, size_t records, uint8_t place)
+{
+    (void)row;
+    uint8_t answer = judge_place(records, place);
+    if (answer == WELLACORN_SERVED) {
+        box->tables.present |= (uint16_t)module_at(place);
+    }
+    return answer;
+}
+
+/* 02, M-102, 4 and 8: what opens with a module is a change while there is another; without one nothing is due of them any more. */
+static void mark_emptied(peer_box *box, unsigned changed)
+{
+    if (changed && has_module(&box->tables)) {
+        mark_due(box, changed);
+    }
+    for (int c = 0; c < WELLACORN_CONNECTIONS; c++) {
+        box->connections[c].line.external &= has_module(&box->tables);
+    }
+}
+
+uint8_t peer_empty(peer_box *box, peer_pulse *row, size_t records, uint8_t place)
+{
+    const peer_queue *queue = &box->queue;
+    uint8_t answer = judge_place(records, place);
+    if (answer != WELLACORN_SERVED || (box->tables.present & module_at(place)) == 0) {
+        return answer;
+    }
+    unsigned module = module_at(place);
+    box->tables.present &= (uint16_t)~module;
+    for (unsigned i = 0; i < queue->standing; i++) {
+        row[(queue->first + i) % WELLACORN_PULSES].mask &= (uint16_t)~module;
+    }
+    mark_emptied(box, change_block(box->tables.relays, module, 0));
+    return answer;
 }
 
 static const peer_half nothing_read;
@@ -766,6 +886,7 @@ uint8_t peer_connect(peer_box *box, uint8_t c, uint8_t rank, uint8_t strict)
         .rank = rank,
         .monitor = true,
         .due = rank > 0,
+        .external = rank > 0 && has_module(&box->tables),
         .strict = strict,
         .unchecked = strict != 0 ? NO_CHECKSUM : UNCHECKED,
     };
@@ -800,12 +921,16 @@ uint8_t peer_collect(peer_box *box, uint8_t c, uint8_t *reply, size_t reply_len)
         return WELLACORN_SHORT_BUFFER;
     }
     peer_line *line = &box->connections[c].line;
-    if (!line->due) {
+    if (!line->due && !line->external) {
         return WELLACORN_WAITING;
     }
-    line->due = false;
-    const uint8_t *end = put_monitor(reply + HEADER, &box->tables);
-    box->len = seal(reply, (size_t)(end - reply) - HEADER);
+    if (line->due) {
+        box->len = monitor_frame(reply, &box->tables);
+    }
+    if (line->external) {
+        box->len += external_frame(reply + box->len, &box->tables);
+    }
+    line->due = line->external = false;
     return WELLACORN_SERVED;
 }
 

@@ -27,7 +27,8 @@ typedef struct {
 
 typedef struct {
     peer_input inputs[WELLACORN_CHANNELS];
-    peer_relay relays[WELLACORN_CHANNELS];
+    peer_relay relays[WELLACORN_RELAYS];
+    uint16_t present;       /* the relays that are there, lowest bit relay 1: 1 to 8 always, 9 to 16 with their modules */
     uint64_t clock;
 } peer_tables;
 
@@ -36,6 +37,7 @@ typedef struct {
     uint8_t rank;
     bool monitor;
     bool due;
+    bool external;
     uint8_t strict;         /* as its opening said: 0 is not strict */
     uint32_t unchecked;     /* the sent checksum that passes unchecked; on a strict connection a number that nobody can send */
 } peer_line;
@@ -54,15 +56,15 @@ typedef struct {
 
 /* A pulse in the row that is lent: a ring of WELLACORN_PULSES places. */
 typedef struct {
-    uint8_t mask;
-    uint8_t states;
+    uint16_t mask;
+    uint16_t states;
     uint32_t duration;
 } peer_pulse;
 
 typedef struct {
     uint8_t first;          /* the running pulse's place */
     uint8_t standing;       /* the running one included */
-    uint8_t remembered;     /* the relays when it began, lowest bit relay 1 */
+    uint16_t remembered;    /* the relays when it began, lowest bit relay 1 */
     uint32_t left;          /* ms up to its end: not 0 while one runs */
     peer_pulse last;        /* accepted last */
 } peer_queue;
@@ -80,6 +82,8 @@ typedef struct {
 void peer_power_up(peer_box *box, const wellacorn_settings *settings);
 uint8_t peer_level(peer_box *box, uint8_t k, uint8_t v);
 uint8_t peer_pass(peer_box *box, const peer_pulse *row, size_t records, uint32_t d);
+uint8_t peer_fill(peer_box *box, const peer_pulse *row, size_t records, uint8_t place);
+uint8_t peer_empty(peer_box *box, peer_pulse *row, size_t records, uint8_t place);
 uint8_t peer_connect(peer_box *box, uint8_t c, uint8_t rank, uint8_t strict);
 uint8_t peer_close(peer_box *box, uint8_t c);
 

@@ -3,7 +3,7 @@
  *
  * What is lent shows what the peer holds. After bytes and a collection only what the reference host reads then is written there: the relays'
  * states, what is due, the queue and the pulse that was accepted, how far the message has been read and its content. So showing takes some ns
- * a message. The rest follows with the next other call.
+ * a message. The rest follows with the next other call; after an emptying also the pulses that stand.
  */
 #define ENGINE_PEER
 #include "engine.h"
@@ -29,11 +29,12 @@ static wellacorn_done came_to(void)
 
 static void show(wellacorn_board *board)
 {
-    for (int k = 0; k < WELLACORN_CHANNELS; k++) {
+    for (int k = 0; k < WELLACORN_RELAYS; k++) {
         board->relays[k].closed = box.box.tables.relays[k].closed;
     }
     for (int c = 0; c < WELLACORN_CONNECTIONS; c++) {
         board->lines[c].due = box.box.connections[c].line.due;
+        board->lines[c].external = box.box.connections[c].line.external;
     }
     board->queue = engine_queue(&box);
 }
@@ -64,6 +65,24 @@ wellacorn_done wellacorn_pass(wellacorn_board *board, const wellacorn_pulse *row
 {
     (void)row;
     engine_pass(&box, pulses, records, d);
+    return told(board);
+}
+
+wellacorn_done wellacorn_fill(wellacorn_board *board, const wellacorn_pulse *row, size_t records, uint8_t place)
+{
+    (void)row;
+    engine_fill(&box, pulses, records, place);
+    return told(board);
+}
+
+wellacorn_done wellacorn_empty(wellacorn_board *board, wellacorn_pulse *row, size_t records, uint8_t place)
+{
+    const wellacorn_queue queue = engine_queue(&box);
+    engine_empty(&box, pulses, records, place);
+    for (size_t i = 0; box.answer == WELLACORN_SERVED && i < queue.standing; i++) {
+        size_t at = (queue.first + i) % WELLACORN_PULSES;
+        row[at] = engine_pulse_in(&pulses[at]);
+    }
     return told(board);
 }
 

@@ -301,6 +301,11 @@ static engine_pulse *lend_row(size_t records)
     return records < WELLACORN_PULSES ? too_short : shared;
 }
 
+static bool rows_differ(void)
+{
+    return memcmp(shared, shared_before, sizeof shared) != 0 || memcmp(too_short, too_short_before, sizeof too_short) != 0;
+}
+
 /* Whether a record changed that the call must leave: every one, but where a pulse was accepted the one that holds it. */
 static bool row_spoilt(void)
 {
@@ -308,7 +313,18 @@ static bool row_spoilt(void)
         size_t place = (queue_before.first + queue_before.standing) % WELLACORN_PULSES;
         shared_before[place] = shared[place];
     }
-    return memcmp(shared, shared_before, sizeof shared) != 0 || memcmp(too_short, too_short_before, sizeof too_short) != 0;
+    return rows_differ();
+}
+
+/* The same of an emptying that takes the module at a place out: of each pulse that stood the mask has lost the module's four relays, and nothing
+ * else has changed. A number that no queue has is read as 31. */
+static bool row_spoilt_without(uint8_t place)
+{
+    const uint16_t others = (uint16_t)~(0x0F00u << 4 * (place - 1));
+    for (size_t i = 0; i < queue_before.standing && i < WELLACORN_PULSES; i++) {
+        shared_before[(queue_before.first + i) % WELLACORN_PULSES].mask &= others;
+    }
+    return rows_differ();
 }
 
 static bool pass(const word *words, size_t n)
@@ -321,6 +337,48 @@ static bool pass(const word *words, size_t n)
     engine_pass(&box, lend_row(records), records, d);
     print_number(box.answer);
     if (row_spoilt()) {
+        print_text(" spoilt");
+    }
+    return true;
+}
+
+/* A place, and the length of the row. */
+static bool place_line(const word *words, size_t n, uint8_t *place, size_t *records)
+{
+    return n >= 1 && byte(words[0], place) && row_length(words, n, 1, records);
+}
+
+static bool fill(const word *words, size_t n)
+{
+    uint8_t place;
+    size_t records;
+    if (!place_line(words, n, &place, &records)) {
+        return false;
+    }
+    engine_fill(&box, lend_row(records), records, place);
+    print_number(box.answer);
+    if (rows_differ()) {
+        print_text(" spoilt");
+    }
+    return true;
+}
+
+static bool is_filled(uint8_t place)
+{
+    return place >= 1 && place <= WELLACORN_PLACES && engine_board(&box).places[place - 1].filled != 0;
+}
+
+static bool empty(const word *words, size_t n)
+{
+    uint8_t place;
+    size_t records;
+    if (!place_line(words, n, &place, &records)) {
+        return false;
+    }
+    bool takes_out = records >= WELLACORN_PULSES && is_filled(place);
+    engine_empty(&box, lend_row(records), records, place);
+    print_number(box.answer);
+    if (takes_out ? row_spoilt_without(place) : rows_differ()) {
         print_text(" spoilt");
     }
     return true;
@@ -424,14 +482,15 @@ static bool state(const word *words, size_t n)
         print_numbers((const uint64_t[]){in->level, in->count, in->usage}, 3);
     }
     print_text(" R");
-    for (int k = 0; k < WELLACORN_CHANNELS; k++) {
+    for (int k = 0; k < WELLACORN_RELAYS; k++) {
         const wellacorn_relay *relay = &b.relays[k];
         print_numbers((const uint64_t[]){relay->closed, relay->usage}, 2);
     }
     print_text(" N");
     for (int c = 0; c < WELLACORN_CONNECTIONS; c++) {
         const wellacorn_line *line = &b.lines[c];
-        print_numbers((const uint64_t[]){line->is_open, line->rank, line->monitor, line->due, engine_half(&box, c).got, line->strict != 0}, 6);
+        const uint64_t got = engine_half(&box, c).got;
+        print_numbers((const uint64_t[]){line->is_open, line->rank, line->monitor, line->due, got, line->external, line->strict != 0}, 7);
     }
     print_queue(&b.queue);
     return true;
@@ -443,8 +502,8 @@ static bool obey(word line)
         const char *name;
         bool (*obey)(const word *words, size_t n);
     } lines[] = {
-        {"bytes", bytes}, {"collect", collect},  {"level", level}, {"pass", pass},
-        {"state", state}, {"open", connect_line}, {"close", close_line}, {"power", power},
+        {"bytes", bytes}, {"collect", collect},   {"level", level},      {"pass", pass},   {"fill", fill},
+        {"empty", empty}, {"state", state}, {"open", connect_line}, {"close", close_line}, {"power", power},
     };
 
     word words[WORDS];

@@ -13,6 +13,7 @@
  * What the host owes:
  *   - The same box (board, halves, rooms and the row of pulses) goes into every call, one call at a time, and nobody else alters it between
  *     calls. It is powered up first: that writes the whole board. Halves, rooms and row need not be cleared.
+ *   - The box is told when a relay module is plugged in at a place of the second deck, and when it is pulled. At power-up both places are empty.
  *   - Bytes that a call has not taken are the host's to offer again, before any later ones of that connection: the box does not hold them.
  *   - No pointer is null, not even where the length beside it is 0. Board, halves, rooms, row, piece and reply do not overlap.
  *   - A bool of the settings is 0 or 1.
@@ -32,25 +33,28 @@ extern "C" {
 /* ---- Numbers */
 
 enum {
-    WELLACORN_CHANNELS = 8,         /* inputs 1 to 8 and relays 1 to 8; channel k stands at place k - 1 */
+    WELLACORN_CHANNELS = 8,         /* inputs 1 to 8, and relays 1 to 8, which are always there; channel k stands at place k - 1 */
+    WELLACORN_RELAYS = 16,          /* relays 1 to 16, of which 9 to 16 are there with their modules; relay k stands at place k - 1 */
+    WELLACORN_PLACES = 2,           /* places of the second deck: a module at place 1 has relays 9 to 12, one at place 2 relays 13 to 16 */
     WELLACORN_CONNECTIONS = 4,      /* connections 0 to 3 */
-    WELLACORN_ROWS = 22,            /* rows of the board, of eight words each: eight inputs, eight relays, the clock, four connections, the queue */
+    WELLACORN_ROWS = 32,            /* rows of the board, of eight words each: inputs, relays, the clock, connections, the queue, places */
     WELLACORN_PULSES = 31,          /* pulses that stand in the queue at most, the running one included: records of the row that is lent */
     WELLACORN_CONTENT = 1024,       /* the longest content that is judged: a longer message is swallowed */
     WELLACORN_ROOMS = 4096,         /* the rooms: 1,024 content bytes for each connection */
     WELLACORN_REPLY = 4096,         /* the reply buffer must hold so many bytes */
-    WELLACORN_LONGEST_REPLY = 3437  /* the longest reply, its header included */
+    WELLACORN_LONGEST_REPLY = 3437  /* the longest reply, its header included; two frames in one reply are shorter */
 };
 
 /* The answer numbers. From NO_CONNECTION on they are refusals, which have no reply. A call is refused by the first that applies of
- * NO_CONNECTION, ALREADY_OPEN, BAD_RANK and SHORT_BUFFER, and then takes no bytes and changes nothing. A whole message is refused by the first
- * that applies of TOO_LONG, BAD_CHECKSUM, NOT_OFFERED, LOW_RANK, then for its length, by the one of ENDS_EARLY, LEFT_OVER and LIST_CUT that says
- * what is wrong with it, then OUT_OF_RANGE and QUEUE_FULL: its bytes are taken through its end, nothing of it stays half read, and nothing else
- * changes. Only in the message types 5 and 10 the request or action, where it has come, is judged (OUT_OF_RANGE) before the length.
+ * NO_CONNECTION, ALREADY_OPEN, BAD_RANK, SHORT_BUFFER and, of a level and of a place, OUT_OF_RANGE, and then takes no bytes and changes nothing.
+ * A whole message is refused by the first that applies of TOO_LONG, BAD_CHECKSUM, NOT_OFFERED, LOW_RANK, then for its length, by the one of
+ * ENDS_EARLY, LEFT_OVER and LIST_CUT that says what is wrong with it, then OUT_OF_RANGE and QUEUE_FULL: its bytes are taken through its end,
+ * nothing of it stays half read, and nothing else changes. Only in the message types 5 and 10 the request or action, where it has come, is judged
+ * (OUT_OF_RANGE) before the length.
  *
  * 10 is not given. It stood for every wrong length, before it was split into 20 to 22, with which goes a place (wellacorn_done). */
 enum {
-    WELLACORN_WAITING = 0,          /* the piece has ended and no message with it; of a collection: Monitor is not due */
+    WELLACORN_WAITING = 0,          /* the piece has ended and no message with it; of a collection: nothing is due */
     WELLACORN_SERVED = 1,           /* done, with a reply or without */
     WELLACORN_KEEP_ALIVE = 2,       /* the byte that only says that the sender is there: 1 taken, nothing changed */
     WELLACORN_NO_CONNECTION = 3,    /* no connection has this number, or it is shut; to an opening only the former */
@@ -60,7 +64,8 @@ enum {
     WELLACORN_BAD_CHECKSUM = 7,     /* not the content's checksum; 0xFFFF is let pass all the same, but not on a strict connection */
     WELLACORN_NOT_OFFERED = 8,      /* no content, or a type that the box does not serve */
     WELLACORN_LOW_RANK = 9,         /* the type needs a higher rank */
-    WELLACORN_OUT_OF_RANGE = 11,    /* a number in a message or of a level that stands for nothing, or a pulse of 0 ms */
+    WELLACORN_OUT_OF_RANGE = 11,    /* a number in a message, of a level or of a place that stands for nothing, a relay whose module is not there, or
+                                       a pulse of 0 ms */
     WELLACORN_ALREADY_OPEN = 12,    /* an opening of a connection that is not shut */
     WELLACORN_BAD_RANK = 13,        /* an opening at a rank that there is not */
     WELLACORN_QUEUE_FULL = 14,      /* a pulse is asked for while WELLACORN_PULSES stand */
@@ -71,9 +76,9 @@ enum {
 
 /* ---- What the box holds.
  *
- * The host may read it between calls: levels, counts, usages, relays, the clock, the connections, what is due, the pulses, how far a message
- * has been read. It writes to none of it. Usages are in ms. A flag is a word: 0 is no, anything else yes; the calls write 0 and 1, but `strict` as
- * the host said it. The unused words are 0. */
+ * The host may read it between calls: levels, counts, usages, relays, the clock, the connections, what is due, the pulses, the modules, how far a
+ * message has been read. It writes to none of it. Usages are in ms. A flag is a word: 0 is no, anything else yes; the calls write 0 and 1, but
+ * `strict` as the host said it. The unused words are 0. */
 
 typedef struct {
     uint64_t level;             /* on or off */
@@ -86,6 +91,7 @@ typedef struct {
     uint64_t unused;
 } wellacorn_input;
 
+/* Relays 9 to 16 have no usage and no setpoint: both words stay 0. Where their module is not there they are open. */
 typedef struct {
     uint64_t closed;            /* closed or open */
     uint64_t unused[4];
@@ -103,10 +109,11 @@ typedef struct {
 typedef struct {
     uint64_t is_open;           /* open or shut */
     uint64_t rank;              /* 0 not logged in, 1 user, 2 administrator */
-    uint64_t monitor;           /* Monitor on or off */
-    uint64_t due;               /* Monitor due or not */
+    uint64_t monitor;           /* Monitor on or off, for both messages */
+    uint64_t due;               /* the Monitor message (type 1) due or not */
     uint64_t strict;            /* as its opening said: where it is not 0, no checksum passes unchecked, 0xFFFF neither */
-    uint64_t unused[3];
+    uint64_t external;          /* the External Monitor message (type 2) due or not; never while no module is there */
+    uint64_t unused[2];
 } wellacorn_line;
 
 /* The queue of pulses. The pulses themselves stand in the row: the running one at the place `first`, behind it those that wait, in the order
@@ -115,24 +122,31 @@ typedef struct {
     uint64_t first;             /* the place of the running pulse in the row, 0 to 30; it moves on by one with each pulse that ends */
     uint64_t standing;          /* how many stand, the running one included: 0 to 31. 0: none runs */
     uint64_t left;              /* ms up to the end of the running one; 0 where none runs */
-    uint64_t remembered;        /* the states of all relays when it began, lowest bit relay 1: its masked relays return to them; 0 where none runs */
-    uint64_t mask;              /* of the request that was accepted last, as it stands in the row: mask, states, duration */
+    uint64_t remembered;        /* the states of all 16 relays when it began, lowest bit relay 1: its masked relays return to them; 0 where none runs */
+    uint64_t mask;              /* of the request that was accepted last, as it came into the row: mask, states, duration */
     uint64_t states;
     uint64_t duration;
     uint64_t unused;
 } wellacorn_queue;
 
+/* A place of the second deck; place p stands at p - 1. */
+typedef struct {
+    uint64_t filled;            /* a relay module stands there, or the place is empty */
+    uint64_t unused[7];
+} wellacorn_place;
+
 typedef struct {
     wellacorn_input inputs[WELLACORN_CHANNELS];
-    wellacorn_relay relays[WELLACORN_CHANNELS];
+    wellacorn_relay relays[WELLACORN_RELAYS];
     wellacorn_clock clock;
     wellacorn_line lines[WELLACORN_CONNECTIONS];
     wellacorn_queue queue;
+    wellacorn_place places[WELLACORN_PLACES];
 } wellacorn_board;
 
 /* A pulse, as it stands in the row: the masked relays take their states for so long, and then return to those they had. */
 typedef struct {
-    uint16_t mask;              /* lowest bit relay 1 */
+    uint16_t mask;              /* lowest bit relay 1; relays whose module is pulled are taken out of it */
     uint16_t states;            /* 1 closed, 0 open; only those of masked relays count */
     uint32_t duration;          /* ms, not 0 */
 } wellacorn_pulse;
@@ -155,14 +169,14 @@ typedef struct {
 
 typedef struct {
     wellacorn_input_settings inputs[WELLACORN_CHANNELS];
-    uint64_t relays[WELLACORN_CHANNELS];    /* the usage setpoint of each relay */
+    uint64_t relays[WELLACORN_CHANNELS];    /* the usage setpoint of each of relays 1 to 8 */
 } wellacorn_settings;
 
 /* ---- What a call came to */
 
 typedef struct {
     size_t taken;               /* bytes taken of the piece; an event and a collection take none */
-    size_t len;                 /* the reply's length, its five header bytes included; 0 for no reply */
+    size_t len;                 /* the reply's length, the five header bytes of each of its frames included; 0 for no reply */
     size_t place;               /* with ENDS_EARLY and LIST_CUT the content's length, where the first missing byte would stand; with LEFT_OVER where
                                    the first surplus byte stands; the content's type byte is 0; with every other answer 0 */
     uint8_t answer;             /* the answer number */
@@ -170,23 +184,37 @@ typedef struct {
 
 /* ---- The calls */
 
-/* The box at power-up: everything is 0, open or shut but for the setpoints and alarm switches, which the host gives. */
+/* The box at power-up: everything is 0, open, shut or empty but for the setpoints and alarm switches, which the host gives. */
 void wellacorn_power_up(wellacorn_board *board, wellacorn_settings s);
 
-/* Input k (1 to 8) is on (v is 1) or off (0). A rise counts one; the level that it has already does nothing. A real change makes Monitor due
- * to every open connection that has a rank above 0 and Monitor on. Answers SERVED, or OUT_OF_RANGE for another input or level. */
+/* Input k (1 to 8) is on (v is 1) or off (0). A rise counts one; the level that it has already does nothing. Answers SERVED, or OUT_OF_RANGE for
+ * another input or level.
+ *
+ * A real change, whichever call makes it, is due to every open connection that has a rank above 0 and Monitor on: one of a level or of relays 1 to 8
+ * makes Monitor due, and one of a level or of any relay makes External Monitor due while a module is there. */
 wellacorn_done wellacorn_level(wellacorn_board *board, uint8_t k, uint8_t v);
 
-/* d ms have passed, for the clock and for the usages of inputs that are on and relays that are closed. In each ms they grow first; then the
- * running pulse ends if its time is over, and the next begins in that same ms. Each end and each beginning that really changes a relay makes
- * Monitor due. The row is read only. Answers SERVED, or SHORT_BUFFER for a row under WELLACORN_PULSES records.
+/* d ms have passed, for the clock and for the usages of inputs that are on and of those of relays 1 to 8 that are closed. In each ms they grow first;
+ * then the running pulse ends if its time is over, and the next begins in that same ms. Each end and each beginning is a change of its own. The row
+ * is read only. Answers SERVED, or SHORT_BUFFER for a row under WELLACORN_PULSES records.
  *
  * A relay that a pulse has closed is closed until this call says that its time is over: `queue.left` of the board says when that is. */
 wellacorn_done wellacorn_pass(wellacorn_board *board, const wellacorn_pulse *row, size_t records, uint32_t d);
 
-/* Opens connection c at a rank: at a message start, with Monitor on, and due at rank 1 or 2. `strict` is 0 for a connection on which a sent
- * checksum of 0xFFFF passes unchecked, as the protocol has it; with any other value none does, and the connection stays so until it is closed:
- * that is for a link that garbles bytes, such as radio. Answers SERVED, or NO_CONNECTION, ALREADY_OPEN or BAD_RANK. */
+/* A relay module stands at a place from now on: at place 1 with relays 9 to 12, at place 2 with relays 13 to 16, all of them open. Nothing becomes
+ * due by it, and of the row only the length counts. A place that is filled already stays as it is. Answers SERVED, SHORT_BUFFER for a row under
+ * WELLACORN_PULSES records, or OUT_OF_RANGE for another place. */
+wellacorn_done wellacorn_fill(wellacorn_board *board, const wellacorn_pulse *row, size_t records, uint8_t place);
+
+/* The module at a place is gone. Its relays read open, which is a change if one of them was closed; it makes External Monitor due only where the other
+ * module is still there. Without any module External Monitor is due to nobody. The pulses that stand, the running one too, lose these relays from
+ * their masks, and keep their places, their times and their other relays; nothing else of the row is written to. A place that is empty already stays
+ * as it is, and so does the row. Answers as wellacorn_fill. */
+wellacorn_done wellacorn_empty(wellacorn_board *board, wellacorn_pulse *row, size_t records, uint8_t place);
+
+/* Opens connection c at a rank: at a message start, with Monitor on, and due at rank 1 or 2; so is External Monitor if a module is there. `strict` is
+ * 0 for a connection on which a sent checksum of 0xFFFF passes unchecked, as the protocol has it; with any other value none does, and the connection
+ * stays so until it is closed: that is for a link that garbles bytes, such as radio. Answers SERVED, or NO_CONNECTION, ALREADY_OPEN or BAD_RANK. */
 wellacorn_done wellacorn_connect(wellacorn_board *board, wellacorn_half halves[WELLACORN_CONNECTIONS], uint8_t c, uint8_t rank, uint8_t strict);
 
 /* Closes connection c: half a message is forgotten, and everything of it is zero. Answers SERVED, or NO_CONNECTION. */
@@ -194,12 +222,13 @@ wellacorn_done wellacorn_close(wellacorn_board *board, wellacorn_half halves[WEL
 
 /* Bytes of connection c. Up to the end of a message they are taken, or all of them where none ends: `taken` says how many. A message that
  * ends is served or refused, and what follows it in the piece is to be offered again. Of a message that is refused for its length `place` says
- * where: in its content, however the pieces were cut. A reply is one whole frame of `len` bytes at the start of the reply buffer; the bytes
- * behind it stay, and without a reply all stay.
+ * where: in its content, however the pieces were cut. A reply is `len` bytes at the start of the reply buffer, whole frames one behind the other: one,
+ * or two where request 1 asks for Monitor while a module is there, Monitor and External Monitor. The bytes behind them stay, and without a reply all
+ * stay.
  *
  *   rooms      1,024 content bytes for each connection, at 1,024 x c. A call writes to those of its own connection alone.
  *   row        `records` records, at least WELLACORN_PULSES or the answer is SHORT_BUFFER. A pulse that is accepted is written to one of the
- *              first 31; no other record is ever written to. Not null, not even for a length of 0.
+ *              first 31; no other record is written to. Not null, not even for a length of 0.
  *   piece      piece_len bytes, read only. Not null, not even for an empty piece, which is judged as any and else answers WAITING.
  *   reply      reply_len bytes, at least WELLACORN_REPLY or the answer is SHORT_BUFFER. Not null, not even for a length of 0.
  *
@@ -208,9 +237,9 @@ wellacorn_done wellacorn_bytes(wellacorn_board *board, wellacorn_half halves[WEL
                                wellacorn_pulse *row, size_t records, uint8_t c, const uint8_t *piece, size_t piece_len, uint8_t *reply,
                                size_t reply_len);
 
-/* Collects on connection c: a Monitor message of the state now, if one is due, which it then is no longer: SERVED. If not: WAITING. However
- * much has changed since the last one, it is one message. The reply buffer is as in wellacorn_bytes. Answers also NO_CONNECTION or
- * SHORT_BUFFER. */
+/* Collects on connection c what is due, of the state now: a Monitor message, an External Monitor message, or the first and behind it the second, each
+ * a whole frame, `len` bytes in all. Neither is due any longer then: SERVED. If nothing is due: WAITING. However much has changed since the last ones,
+ * it is one of each. The reply buffer is as in wellacorn_bytes. Answers also NO_CONNECTION or SHORT_BUFFER. */
 wellacorn_done wellacorn_collect(wellacorn_board *board, uint8_t c, uint8_t *reply, size_t reply_len);
 
 /* ---- The box in one piece: all that is lent, and the same calls on it. What a later version lends besides is added here, and a host that
@@ -236,6 +265,16 @@ static inline wellacorn_done wellacorn_box_level(wellacorn_box *box, uint8_t k, 
 static inline wellacorn_done wellacorn_box_pass(wellacorn_box *box, uint32_t d)
 {
     return wellacorn_pass(&box->board, box->row, WELLACORN_PULSES, d);
+}
+
+static inline wellacorn_done wellacorn_box_fill(wellacorn_box *box, uint8_t place)
+{
+    return wellacorn_fill(&box->board, box->row, WELLACORN_PULSES, place);
+}
+
+static inline wellacorn_done wellacorn_box_empty(wellacorn_box *box, uint8_t place)
+{
+    return wellacorn_empty(&box->board, box->row, WELLACORN_PULSES, place);
 }
 
 static inline wellacorn_done wellacorn_box_connect(wellacorn_box *box, uint8_t c, uint8_t rank, uint8_t strict)
@@ -291,6 +330,7 @@ WELLACORN_PLACE(wellacorn_line, rank, 8);
 WELLACORN_PLACE(wellacorn_line, monitor, 16);
 WELLACORN_PLACE(wellacorn_line, due, 24);
 WELLACORN_PLACE(wellacorn_line, strict, 32);
+WELLACORN_PLACE(wellacorn_line, external, 40);
 
 WELLACORN_SIZE(wellacorn_queue, WELLACORN_ROW);
 WELLACORN_PLACE(wellacorn_queue, first, 0);
@@ -301,12 +341,16 @@ WELLACORN_PLACE(wellacorn_queue, mask, 32);
 WELLACORN_PLACE(wellacorn_queue, states, 40);
 WELLACORN_PLACE(wellacorn_queue, duration, 48);
 
+WELLACORN_SIZE(wellacorn_place, WELLACORN_ROW);
+WELLACORN_PLACE(wellacorn_place, filled, 0);
+
 WELLACORN_SIZE(wellacorn_board, WELLACORN_ROWS * WELLACORN_ROW);
 WELLACORN_PLACE(wellacorn_board, inputs, 0 * WELLACORN_ROW);
 WELLACORN_PLACE(wellacorn_board, relays, 8 * WELLACORN_ROW);
-WELLACORN_PLACE(wellacorn_board, clock, 16 * WELLACORN_ROW);
-WELLACORN_PLACE(wellacorn_board, lines, 17 * WELLACORN_ROW);
-WELLACORN_PLACE(wellacorn_board, queue, 21 * WELLACORN_ROW);
+WELLACORN_PLACE(wellacorn_board, clock, 24 * WELLACORN_ROW);
+WELLACORN_PLACE(wellacorn_board, lines, 25 * WELLACORN_ROW);
+WELLACORN_PLACE(wellacorn_board, queue, 29 * WELLACORN_ROW);
+WELLACORN_PLACE(wellacorn_board, places, 30 * WELLACORN_ROW);
 
 WELLACORN_SIZE(wellacorn_pulse, 8);
 WELLACORN_PLACE(wellacorn_pulse, mask, 0);

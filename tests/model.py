@@ -1,5 +1,5 @@
 #!/usr/bin/env python3
-"""The box of 01-scope.md, with requests M-100, M-101, M-103 and M-105 of 02, as a plain machine over joined bytes.
+"""The box of 01-scope.md, with requests M-100 to M-103 and M-105 of 02, as a plain machine over joined bytes.
 
 This is the judge a proved implementation is held to, so it is written for a reader: the rules in
 01's order, one short function each.  It shares nothing with the implementation.
@@ -27,6 +27,9 @@ TOP64 = 18446744073709551615            # largest clock, largest usage
 VERSION = b"jr310 3.10.0001"
 
 PULSES = 31                             # M-100, 2 and 5: pulses that stand at most, and the least row that is lent for them
+
+INTERNAL = 8                            # What the box holds, 2: relays that are always there
+PLACES = {1: range(9, 13), 2: range(13, 17)}    # M-102, 1: of each place the relays that a module in it has
 
 
 class Refused(Exception):
@@ -60,7 +63,7 @@ class Input:
 
 
 class Relay:
-    """What the box holds, 2.  A closed relay has the state 1."""
+    """What the box holds, 2.  A closed relay has the state 1.  Relays 9 to 16 (M-102, 2) have no more: the rest stays 0."""
 
     __slots__ = ("state", "usage", "usage_setpoint")
 
@@ -70,18 +73,20 @@ class Relay:
 
 
 class Connection:
-    """What the box holds, 4; M-103, 2: and whether it is strict.
+    """What the box holds, 4; M-102, 4: a second mark, for type 2, the External Monitor message; M-103, 2: and whether
+    it is strict.
 
     `joined` holds the bytes taken since the opening, less the whole messages cut off their front.
     """
 
-    __slots__ = ("open", "rank", "monitor", "due", "strict", "joined")
+    __slots__ = ("open", "rank", "monitor", "due", "due2", "strict", "joined")
 
-    def __init__(self, open=0, rank=0, monitor=0, due=0, strict=0):
+    def __init__(self, open=0, rank=0, monitor=0, due=0, due2=0, strict=0):
         self.open = open
         self.rank = rank
         self.monitor = monitor
         self.due = due
+        self.due2 = due2
         self.strict = strict
         self.joined = bytearray()
 
@@ -96,10 +101,16 @@ class Pulse:
         self.states = states & mask
         self.duration = duration
 
+    def lose(self, mask):
+        """M-102, 8: these relays are no longer in its mask."""
+        self.mask &= ~mask
+        self.states &= self.mask
+
 
 # Messages, IDs.
 INPUT_IDS = tuple(0x01FF + 0x100 * k for k in range(8))         # din1 to din8
 RELAY_IDS = tuple(0x0101FF + 0x100 * k for k in range(8))       # rout1 to rout8
+DECK_IDS = tuple(0x0109FF + 0x100 * k for k in range(8))        # M-102, 9, and 000: rout9 to rout16
 
 
 # ---------------------------------------------------------------------------------------------
@@ -209,10 +220,11 @@ class Box:
     def power(self, settings=(0,) * 40):
         """What the box holds, 5 and 6: everything is 0, open or shut but for what the host sets."""
         self.inputs = [Input(*settings[4 * k:4 * k + 4]) for k in range(8)]
-        self.relays = [Relay(settings[32 + k]) for k in range(8)]
+        self.relays = [Relay(settings[32 + k]) for k in range(8)] + [Relay() for _ in range(8)]
+        self.filled = set()             # M-102, 1: the places in which a module is
         self.clock = 0
         self.connections = [Connection() for _ in range(4)]
-        self.devices = dict(zip(INPUT_IDS + RELAY_IDS, self.inputs + self.relays))
+        self.devices = dict(zip(INPUT_IDS + RELAY_IDS, self.inputs + self.internal()))
         self.queue = []                 # pulses, the running one first
         self.left = 0                   # ms up to the running one's end
         self.remembered = 0             # the relays' states at its beginning
@@ -234,6 +246,19 @@ class Box:
     def usage_alarm(self, usage, setpoint):
         """What the box holds, 7 and 10: from the setpoint on, where there is one."""
         return 1 if setpoint and usage >= setpoint else 0
+
+    # -- relays and modules ----------------------------------------------------------------------
+
+    def internal(self):
+        """Relays 1 to 8."""
+        return self.relays[:INTERNAL]
+
+    def deck(self):
+        """M-102, 1 and 5: which relays the modules have that are present, rising."""
+        return [k for place in sorted(self.filled) for k in PLACES[place]]
+
+    def module_present(self):
+        return len(self.filled) > 0
 
     # -- events besides bytes --------------------------------------------------------------------
 
@@ -286,7 +311,7 @@ class Box:
         for inp in self.inputs:
             if inp.level:
                 inp.usage = self.grown(inp.usage, d)
-        for relay in self.relays:
+        for relay in self.internal():
             if relay.state:
                 relay.usage = self.grown(relay.usage, d)
 
@@ -322,10 +347,51 @@ class Box:
         """As a number, lowest bit relay 1."""
         return sum(relay.state << k for k, relay in enumerate(self.relays))
 
+    def fill(self, place, row=PULSES):
+        """M-102, 1: a place has a module, if it had none then from now on.  Its relays are open, so nothing changes with
+        it and nothing is marked.
+        """
+        refused = self.refuse_place(place, row)
+        if refused:
+            return refused
+        self.filled.add(place)
+        return SERVED
+
+    def empty(self, place, row=PULSES):
+        """M-102, 1: a place has no module; where it has none nothing happens."""
+        refused = self.refuse_place(place, row)
+        if refused:
+            return refused
+        if place in self.filled:
+            self.remove(place)
+        return SERVED
+
+    def refuse_place(self, place, row):
+        """M-102, 12: first the row is judged, as for time, then the place.  None when the call may go on."""
+        if row < self.ROW:
+            return SHORT_BUFFER
+        if place not in PLACES:
+            return OUT_OF_RANGE
+        return None
+
+    def remove(self, place):
+        """M-102, 8: the module's relays leave the masks of all pulses that stand, the running one's too, and each
+        pulse keeps its place and its time; then they open, one change if one was closed.  M-102, 4: it marks where
+        another module is still there; when the last has gone type 2 is due to nobody.
+        """
+        gone = sum(1 << k - 1 for k in PLACES[place])
+        self.filled.remove(place)
+        for pulse in self.queue:
+            pulse.lose(gone)
+        self.put_masked(gone, 0)
+        if not self.module_present():
+            for conn in self.connections:
+                conn.due2 = 0
+
     def open(self, c, rank, strict=0):
-        """Events, 3: nothing half read, Monitor on, and due to a user or administrator.  M-103, 2: strict or not,
-        up to its closing; every number but 0 says strict.  Answer numbers, 1: the number is judged first, then
-        whether it is open, then the rank.
+        """Events, 3: nothing half read, Monitor on, and due to a user or administrator.  M-102, 4: type 2 likewise,
+        while a module is present.  M-103, 2: strict or not, up to its closing; every number but 0 says strict.
+        Answer numbers, 1: the number is judged first, then whether it is open, then the rank.
         """
         if c > 3:
             return NO_CONNECTION
@@ -333,7 +399,8 @@ class Box:
             return ALREADY_OPEN
         if rank > 2:
             return BAD_RANK
-        self.connections[c] = Connection(1, rank, 1, 1 if rank >= 1 else 0, 1 if strict else 0)
+        due = 1 if rank >= 1 else 0
+        self.connections[c] = Connection(1, rank, 1, due, due if self.module_present() else 0, 1 if strict else 0)
         return SERVED
 
     def close(self, c):
@@ -344,25 +411,37 @@ class Box:
         return SERVED
 
     def collect(self, c, cap):
-        """Events, 5 and 7: one Monitor message, as the box stands now, if one is due; it no longer is then.
-        Answers the number and the reply.
+        """Events, 5 and 7: one Monitor message, as the box stands now, if one is due; it no longer is then.  M-102, 7:
+        behind it the External one, if that is due.  Answers the number and the reply.
         """
         refused = self.refuse_call(c, cap)
         if refused:
             return refused, b""
         conn = self.connections[c]
-        if not conn.due:
-            return WAITING, b""
-        conn.due = 0
-        return SERVED, self.frame(self.monitor_content())
+        contents = []
+        if conn.due:
+            contents.append(self.monitor_content())
+        if conn.due2:
+            contents.append(self.external_content())
+        conn.due = conn.due2 = 0
+        return SERVED if contents else WAITING, self.frames(contents)
 
-    def changed(self):
+    def changed(self, internal=True):
         """Events, 6: a real change of a level or relay is due to every open connection that has a rank and
-        Monitor on, whoever made it.
+        Monitor on, whoever made it.  M-102, 4 and 6: in type 2, while a module is present, whatever changed; in type 1 a
+        level or a relay from 1 to 8.
         """
         for conn in self.connections:
             if conn.open and conn.rank >= 1 and conn.monitor:
-                conn.due = 1
+                if internal:
+                    conn.due = 1
+                if self.module_present():
+                    conn.due2 = 1
+
+    def relays_changed(self, channels):
+        """One change, of the relays that really changed."""
+        if channels:
+            self.changed(any(k <= INTERNAL for k in channels))
 
     # -- frame -----------------------------------------------------------------------------------
 
@@ -428,10 +507,9 @@ class Box:
         if not self.checksum_passes(conn, number(message[3:5]), content):
             return BAD_CHECKSUM, 0, b""
         try:
-            answer = self.serve(conn, content)
+            return SERVED, 0, self.frames(self.serve(conn, content))
         except Refused as refusal:
             return refusal.answer, refusal.place, b""
-        return SERVED, 0, self.frame(answer) if answer else b""
 
     def checksum_passes(self, conn, sent, content):
         """Frame, 3 and 5: that of the content, without the header; 0xFFFF is none.  M-103, 3: on a strict connection
@@ -443,10 +521,14 @@ class Box:
         """Frame, 6: with the true checksum."""
         return b"\x01" + field(len(content), 2) + field(crc16(content), 2) + content
 
+    def frames(self, contents):
+        """M-102, 7: one behind the other."""
+        return b"".join([self.frame(content) for content in contents])
+
     # -- messages offered --------------------------------------------------------------------------
 
     def serve(self, conn, content):
-        """The content of the reply to a message, empty where it has none.  Answer numbers, 1: the type is
+        """What a message is answered: the content of its reply, none or two.  Answer numbers, 1: the type is
         judged first, then the rank.  M-105, 4: then the length, for each type by itself, and what else it says.
         """
         if not content or content[0] not in self.OFFERED:
@@ -472,30 +554,39 @@ class Box:
             fields.number(4)
         fields.end()
         if request == 0:
-            return self.clock_content()
-        if request == 1:                # Messages, 5, 3: the due mark stays
-            return self.monitor_content()
+            return [self.clock_content()]
+        if request == 1:                # Messages, 5, 3: the due marks stay.  M-102, 7: type 2 where there is a module
+            return [self.monitor_content()] + ([self.external_content()] if self.module_present() else [])
         if request == 2:
-            return self.usage_content()
-        if request == 4:                # Messages, 5, 5: off, and what was due with it
-            conn.monitor = conn.due = 0
-        else:                           # Messages, 5, 5: on; the due mark stays
+            return [self.usage_content()]
+        if request == 4:                # Messages, 5, 5, and M-102, 7: off, and what was due with it
+            conn.monitor = conn.due = conn.due2 = 0
+        else:                           # Messages, 5, 5, and M-102, 7: on; the due marks stay
             conn.monitor = 1
-        return b""
+        return []
 
     def clock_content(self):
         """Messages, 5, 2: type 6, 9 bytes."""
         return b"\x06" + field(self.clock, 8)
 
     def monitor_content(self):
-        """Messages, 1, 1: type 1: the version behind its length, the inputs, the relays, the clock; 97 bytes."""
+        """Messages, 1, 1: type 1: the version behind its length, the inputs, the relays, the clock; 97 bytes.  M-102, 6:
+        relays 1 to 8, whatever modules there are.
+        """
         content = bytearray(b"\x01" + field(len(VERSION), 1) + VERSION)
         for inp in self.inputs:
             content += self.input_status(inp, self.monitor_count_alarm)
-        for relay in self.relays:
+        for relay in self.internal():
             content.append(relay.state)
         content += field(self.clock, 8)
         return bytes(content)
+
+    def external_content(self):
+        """M-102, 5, and 000: type 2: no inputs, how many outputs are present, 4 or 8, their states rising, the clock; 15 or
+        19 bytes.
+        """
+        states = bytes([self.relays[k - 1].state for k in self.deck()])
+        return b"\x02\x00" + field(len(states), 1) + states + field(self.clock, 8)
 
     def input_status(self, inp, count_alarm):
         """Messages, 1, 1, and 21, 4: the fields that Monitor message and read block share, each with its own count alarm."""
@@ -503,8 +594,8 @@ class Box:
                 + field(count_alarm(inp.count, inp.setpoint1), 1) + field(count_alarm(inp.count, inp.setpoint2), 1))
 
     def usage_content(self):
-        """Messages, 5, 4: type 8: the usages of inputs and relays, the clock; 137 bytes."""
-        usages = [device.usage for device in self.inputs + self.relays]
+        """Messages, 5, 4: type 8: the usages of inputs and relays 1 to 8, the clock; 137 bytes."""
+        usages = [device.usage for device in self.inputs + self.internal()]
         return b"\x08" + b"".join(field(usage, 8) for usage in usages) + field(self.clock, 8)
 
     def set_clock(self, conn, fields):
@@ -512,7 +603,7 @@ class Box:
         clock = fields.number(8)
         fields.end()
         self.clock = clock
-        return b""
+        return []
 
     def command(self, conn, fields):
         """Messages, 10: 4 bytes with the type, 8 for the pulses of M-100, 1.  Answer numbers, 2, and M-105, 4: the
@@ -532,15 +623,16 @@ class Box:
         else:
             channel = fields.number(2)
             fields.end()
-            inp, relay = [self.of_channel(devices, channel) for devices in (self.inputs, self.relays)]
-            self.channel_action(action, inp, relay)
-        return b""
+            self.judge_channel(action, channel)
+            self.channel_action(action, channel)
+        return []
 
-    def of_channel(self, devices, channel):
-        """Messages, 10, 2: there are eight channels."""
-        if not 1 <= channel <= 8:
+    def judge_channel(self, action, channel):
+        """Messages, 10, 2: there are eight channels.  M-102, 2, 3 and 12: those that work a relay, and no others, also go
+        to the relays of the modules that are present.
+        """
+        if not 1 <= channel <= INTERNAL and not (action in (1, 2, 3, 6) and channel in self.deck()):
             raise Refused(OUT_OF_RANGE)
-        return devices[channel - 1]
 
     def channel_pulse(self, fields):
         """M-100, 1: action 6, 001: channel (2), duration (4): the pulse with that relay alone in its mask, and
@@ -548,11 +640,11 @@ class Box:
         """
         channel, duration = fields.number(2), fields.number(4)
         fields.end()
-        self.of_channel(self.relays, channel)
+        self.judge_channel(6, channel)
         self.pulse(1 << channel - 1, 1 << channel - 1, duration)
 
     def block_pulse(self, fields):
-        """M-100, 1: action 7, 001: mask (1), states (1), duration (4), lowest bit channel 1."""
+        """M-100, 1: action 7, 001: mask (1), states (1), duration (4), lowest bit channel 1.  M-102, 2: up to 8 as ever."""
         mask, states, duration = fields.number(1), fields.number(1), fields.number(4)
         fields.end()
         self.pulse(mask, states, duration)
@@ -570,35 +662,26 @@ class Box:
             self.begin()
 
     def block_change(self, mask, state):
-        """Messages, 10, 3: the masked relays take their bit of the state, lowest bit relay 1."""
+        """Messages, 10, 3: the masked relays take their bit of the state, lowest bit relay 1.  M-102, 2: up to 8 as ever."""
         self.put_masked(mask, state)
 
     def put_masked(self, mask, states):
         """One change, of all masked relays together."""
-        really = False
-        for k, relay in enumerate(self.relays):
-            if mask >> k & 1:
-                really |= self.put_relay(relay, states >> k & 1)
-        if really:
-            self.changed()
+        self.relays_changed([k for k, relay in enumerate(self.relays, 1)
+                             if mask >> k - 1 & 1 and self.put_relay(relay, states >> k - 1 & 1)])
 
-    def channel_action(self, action, inp, relay):
+    def channel_action(self, action, channel):
         """Messages, 10, 2: close, open or toggle the relay; clear the input's count or usage, or the relay's usage."""
-        really = False
-        if action == 1:
-            really = self.put_relay(relay, 1)
-        elif action == 2:
-            really = self.put_relay(relay, 0)
-        elif action == 3:
-            really = self.put_relay(relay, 1 - relay.state)
+        relay = self.relays[channel - 1]
+        if action in (1, 2, 3):
+            state = {1: 1, 2: 0, 3: 1 - relay.state}[action]
+            self.relays_changed([channel] if self.put_relay(relay, state) else [])
         elif action == 5:
-            inp.count = 0
+            self.inputs[channel - 1].count = 0
         elif action == 8:
-            inp.usage = 0
+            self.inputs[channel - 1].usage = 0
         elif action == 9:
             relay.usage = 0
-        if really:
-            self.changed()
 
     def put_relay(self, relay, state):
         """Whether the state of the relay really changed."""
@@ -616,11 +699,11 @@ class Box:
         for id in ids:
             block = self.read_block(id)
             content += field(id, 8) + field(len(block), 2) + block
-        return bytes(content)
+        return [bytes(content)]
 
     def read_block(self, id):
         """Messages, 21, 3 to 5: nothing of an unknown ID; else the fields that Monitor shows of the device, its usage
-        and usage alarm: 17 bytes of an input, 10 of a relay.
+        and usage alarm: 17 bytes of an input, 10 of a relay.  M-102, 9: nothing of relays 9 to 16, present or not.
         """
         device = self.devices.get(id)
         if device is None:
@@ -639,11 +722,11 @@ class Box:
         for id, block in entries:
             if self.write_entry(id, block):
                 written += 1
-        return b"\x18" + field(written, 2)
+        return [b"\x18" + field(written, 2)]
 
     def write_entry(self, id, block):
         """Messages, 23, 3: whether the entry was written; one that was not changes nothing, and no other is
-        touched by it.
+        touched by it.  M-102, 9: one to relays 9 to 16 is not, present or not.
         """
         if id in INPUT_IDS:
             return self.write_input(self.devices[id], block)
@@ -690,25 +773,29 @@ class Box:
 
     def enumerate_devices(self, conn, fields):
         """Messages, 26: flags (1); type 27 repeats them before count (2) and IDs, first those of the inputs.
-        Flag 1 finds all, flag 2 none.  M-105, 4: the length is judged before the flags.
+        Flag 1 finds all, flag 2 none.  M-102, 9: last those of the relays whose module is present.  M-105, 4: the
+        length is judged before the flags.
         """
         flags = fields.number(1)
         fields.end()
         if flags not in (1, 2, 3):
             raise Refused(OUT_OF_RANGE)
-        ids = INPUT_IDS + RELAY_IDS if flags & 1 else ()
-        return (b"\x1B" + field(flags, 1) + field(len(ids), 2)
-                + b"".join(field(id, 8) for id in ids))
+        ids = INPUT_IDS + RELAY_IDS + self.deck_ids() if flags & 1 else ()
+        return [b"\x1B" + field(flags, 1) + field(len(ids), 2)
+                + b"".join(field(id, 8) for id in ids)]
+
+    def deck_ids(self):
+        return tuple(DECK_IDS[k - 9] for k in self.deck())
 
     # -- the lines of the replay tool -----------------------------------------------------------------
 
     def state(self):
-        """`C` clock `I` eight times level,count,usage `R` eight times state,usage `N` four times
-        open,rank,monitor,due,got,strict `P` the queue.
+        """`C` clock `I` eight times level,count,usage `R` sixteen times state,usage `N` four times
+        open,rank,monitor,due,got,due2,strict `P` the queue.
         """
         inputs = " ".join([f"{i.level},{i.count},{i.usage}" for i in self.inputs])
         relays = " ".join([f"{r.state},{r.usage}" for r in self.relays])
-        connections = " ".join([f"{c.open},{c.rank},{c.monitor},{c.due},{self.got(c)},{c.strict}"
+        connections = " ".join([f"{c.open},{c.rank},{c.monitor},{c.due},{self.got(c)},{c.due2},{c.strict}"
                                 for c in self.connections])
         return f"C {self.clock} I {inputs} R {relays} N {connections} P {self.queue_shown()}"
 
@@ -749,6 +836,10 @@ class Box:
             return str(self.open(*numbers(words[:2], (255, 255)), strict_of(words[2:])))
         if name == "close":
             return str(self.close(*numbers(words, (255,))))
+        if name == "fill":
+            return str(self.fill(*numbers(words[:1], (255,)), row_of(words[1:])))
+        if name == "empty":
+            return str(self.empty(*numbers(words[:1], (255,)), row_of(words[1:])))
         if name == "state" and not words:
             return self.state()
         if name == "power":

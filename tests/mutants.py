@@ -37,6 +37,11 @@ def hold_to(whole, content):
         raise Refused(LEFT_OVER, whole)
 
 
+def marks_of(box):
+    """Of each connection both its marks."""
+    return [(conn.due, conn.due2) for conn in box.connections]
+
+
 def signed(data):
     """Bytes widened with their sign, then put together."""
     value = 0
@@ -61,7 +66,7 @@ class _(Box):
     def set_clock(self, conn, fields):
         super().set_clock(conn, fields)
         self.clock = signed(fields.content[1:9]) & TOP64
-        return b""
+        return []
 
 
 @named("channel's high byte not looked at")
@@ -226,7 +231,7 @@ class _(Box):
 @named("usage grows while off or open")
 class _(Box):
     def grow(self, d):
-        before = [relay.usage for relay in self.relays]
+        before = [relay.usage for relay in self.internal()]
         super().grow(d)
         for relay, usage in zip(self.relays, before):
             relay.usage = self.grown(usage, d)
@@ -240,13 +245,13 @@ class _(Box):
         for inp in self.inputs:
             if inp.level:
                 inp.usage = inp.usage + self.clock - before & TOP64
-        return b""
+        return []
 
 
 @named("clear usage of an input clears the relay's")
 class _(Box):
-    def channel_action(self, action, inp, relay):
-        super().channel_action(9 if action == 8 else action, inp, relay)
+    def channel_action(self, action, channel):
+        super().channel_action(9 if action == 8 else action, channel)
 
 
 @named("rank judged before the open mark")
@@ -329,13 +334,13 @@ class _(Box):
 
 @named("Monitor message made at the change, not at collection")
 class _(Box):
-    def changed(self):
-        super().changed()
+    def changed(self, internal=True):
+        super().changed(internal)
         self.made = self.monitor_content()
 
     def collect(self, c, cap):
         answer, reply = super().collect(c, cap)
-        return answer, self.frame(self.made) if reply and self.made else reply
+        return answer, self.frame(self.made) + reply[102:] if reply[5:6] == b"\x01" and self.made else reply
 
     def power(self, *settings):
         super().power(*settings)
@@ -391,17 +396,18 @@ class _(Box):
 
 @named("due set by clearing a count")
 class _(Box):
-    def channel_action(self, action, inp, relay):
-        super().channel_action(action, inp, relay)
+    def channel_action(self, action, channel):
+        super().channel_action(action, channel)
         if action == 5:
             self.changed()
 
 
 @named("due set with Monitor off")
 class _(Box):
-    def changed(self):
+    def changed(self, internal=True):
+        super().changed(internal)
         for conn in self.connections:
-            if conn.open and conn.rank >= 1:
+            if internal and conn.open and conn.rank >= 1:
                 conn.due = 1
 
 
@@ -421,7 +427,7 @@ class _(Box):
 class _(Box):
     def request(self, conn, fields):
         answer = super().request(conn, fields)
-        if answer[:1] == b"\x01":
+        if fields.content[1:3] == b"\x00\x01":
             conn.due = 0
         return answer
 
@@ -627,7 +633,7 @@ class _(Box):
 @named("buffer not judged where nothing is due")
 class _(Box):
     def collect(self, c, cap):
-        if self.is_open(c) and not self.connections[c].due:
+        if self.is_open(c) and not self.connections[c].due and not self.connections[c].due2:
             return WAITING, b""
         return super().collect(c, cap)
 
@@ -669,7 +675,7 @@ class _(Box):
     OFFERED[1] = "arriving"
 
     def arriving(self, conn, fields):
-        return self.monitor_content()
+        return [self.monitor_content()]
 
 
 @named("length judged before the request")
@@ -691,8 +697,8 @@ class _(Box):
 class _(Box):
     def command(self, conn, fields):
         content = fields.content
-        if len(content) >= 4 and content[1] in (1, 2, 3, 5, 8, 9) and not 1 <= number(content[2:4]) <= 8:
-            raise Refused(OUT_OF_RANGE)
+        if len(content) >= 4 and content[1] in (1, 2, 3, 5, 8, 9):
+            self.judge_channel(content[1], number(content[2:4]))
         return super().command(conn, fields)
 
 
@@ -708,7 +714,7 @@ class _(Box):
 class _(Box):
     def request(self, conn, fields):
         if fields.content == b"\x05\x00\x03":
-            return b""
+            return []
         return super().request(conn, fields)
 
 
@@ -819,13 +825,13 @@ class _(Box):
 @named("failed entries counted as written")
 class _(Box):
     def write_devices(self, conn, fields):
-        return super().write_devices(conn, fields)[:1] + fields.content[1:3]
+        return [content[:1] + fields.content[1:3] for content in super().write_devices(conn, fields)]
 
 
 @named("write answered with 14")
 class _(Box):
     def write_devices(self, conn, fields):
-        return b"\x0E" + super().write_devices(conn, fields)[1:]
+        return [b"\x0E" + content[1:] for content in super().write_devices(conn, fields)]
 
 
 @named("flags 1 and 2 together reset the count")
@@ -897,15 +903,14 @@ class _(Box):
     def enumerate_devices(self, conn, fields):
         answer = super().enumerate_devices(conn, fields)
         if fields.content[1] == 2:
-            answer = answer[:2] + super().enumerate_devices(conn, Fields(b"\x1A\x03", 1))[2:]
+            answer = [answer[0][:2] + super().enumerate_devices(conn, Fields(b"\x1A\x03", 1))[0][2:]]
         return answer
 
 
 @named("enumeration with relays before inputs")
 class _(Box):
     def enumerate_devices(self, conn, fields):
-        answer = super().enumerate_devices(conn, fields)
-        return answer[:4] + answer[68:] + answer[4:68]
+        return [content[:4] + content[68:] + content[4:68] for content in super().enumerate_devices(conn, fields)]
 
 
 # -- pulses: M-100 -------------------------------------------------------------------------------------
@@ -933,7 +938,7 @@ class _(Box):
 @named("pulse end turns the masked relays round")
 class _(Box):
     def end(self):
-        self.remembered = self.relay_states() ^ 0xFF
+        self.remembered = self.relay_states() ^ 0xFFFF
         super().end()
 
 
@@ -1150,8 +1155,8 @@ class _(Box):
 class _(Box):
     def command(self, conn, fields):
         content = fields.content
-        if len(content) >= 4 and content[1] == 6 and not 1 <= number(content[2:4]) <= 8:
-            raise Refused(OUT_OF_RANGE)
+        if len(content) >= 4 and content[1] == 6:
+            self.judge_channel(6, number(content[2:4]))
         return super().command(conn, fields)
 
 
@@ -1295,8 +1300,8 @@ class _(Box):
 
 @named("states of a command remembered")
 class _(Box):
-    def channel_action(self, action, inp, relay):
-        super().channel_action(action, inp, relay)
+    def channel_action(self, action, channel):
+        super().channel_action(action, channel)
         if action in (1, 2, 3):
             self.remembered = self.relay_states()
 
@@ -1311,10 +1316,10 @@ class _(Box):
 
 @named("a command ends the running pulse")
 class _(Box):
-    def channel_action(self, action, inp, relay):
+    def channel_action(self, action, channel):
         if action in (1, 2, 3) and self.queue:
             self.run_down(self.left)
-        super().channel_action(action, inp, relay)
+        super().channel_action(action, channel)
 
 
 @named("a block ends the running pulse")
@@ -1420,11 +1425,11 @@ class OneChange(Box):
     """Judges by the relays' states before and after several steps whether something changed."""
 
     def as_one(self, steps):
-        states, marks = self.relay_states(), [conn.due for conn in self.connections]
+        states, marks = self.relay_states(), marks_of(self)
         answer = steps()
         if states == self.relay_states():
-            for conn, due in zip(self.connections, marks):
-                conn.due = due
+            for conn, (due, due2) in zip(self.connections, marks):
+                conn.due, conn.due2 = due, due2
         return answer
 
 
@@ -1519,7 +1524,7 @@ class _(Box):
         super().set_clock(conn, fields)
         if self.queue:
             self.left = min(max(end - self.clock, 1), TOP32)
-        return b""
+        return []
 
 
 @named("pulse stands still while the clock is at its top")
@@ -1856,8 +1861,8 @@ class _(Box):
 
 @named("a due mark takes strictness away")
 class _(Box):
-    def changed(self):
-        super().changed()
+    def changed(self, internal=True):
+        super().changed(internal)
         for conn in self.connections:
             if conn.due:
                 conn.strict = 0

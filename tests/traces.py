@@ -12,13 +12,13 @@ import random
 import sys
 from collections import namedtuple
 
-from model import Box, INPUT_IDS, PULSES, RELAY_IDS, TOP32, TOP64, crc16, field, number
+from model import Box, DECK_IDS, INPUT_IDS, PLACES, PULSES, RELAY_IDS, TOP32, TOP64, crc16, field, number
 
 Trace = namedtuple("Trace", "lines printed events")
 
 LONGEST_PIECE = 100000          # bytes a line can hold: 200,000 digits
 
-EVENTS = ("open", "close", "level", "pass", "collect", "bytes")
+EVENTS = ("open", "close", "level", "pass", "collect", "bytes", "fill", "empty")
 
 
 def answer_of(line, printed):
@@ -93,8 +93,8 @@ KNOWN_IDS = INPUT_IDS + RELAY_IDS
 # Each of them is next to a known one in some way: one too low or high, another low byte, a bit above,
 # the order of the bytes turned.
 UNKNOWN_IDS = (
-    0, 1, 0xFF, 0x00FF, 0x09FF, 0x0AFF, 0x10FF, 0x0100FF, 0x0109FF, 0x010AFF, 0x0110FF, 0x0201FF, 0x0001FE,
-    0x0101FE, 0x0200, 0x010200, 0x010001FF, 0x01000101FF, 0x8000000000000000 | 0x01FF,
+    0, 1, 0xFF, 0x00FF, 0x09FF, 0x0AFF, 0x10FF, 0x0100FF, 0x0111FF, 0x0118FF, 0x0201FF, 0x0209FF, 0x0001FE,
+    0x0101FE, 0x0109FE, 0x0200, 0x010200, 0x010001FF, 0x01000101FF, 0x01000109FF, 0x8000000000000000 | 0x01FF,
     0x8000000000000000 | 0x0101FF, 0x01000000000001FF, 0xFF01000000000000, 0xFF01010000000000, TOP64,
 )
 
@@ -113,7 +113,9 @@ BAD_LINES = (
     "bytes 0 4096 0x06", "bytes 0 65537 06", "bytes 256 4096 06", "bytes 0 4096 06 ", "bytes 0 4096 06 65",
     "bytes 0 4096 06 -", "bytes 0 4096 06 0A", "bytes 0 4096 06 31 31", "bytes 0 4096 0 31", "collect 0 4096 31",
     "level 1 1 31", "bytes 0 -1 06", "state 0", "states", "stat", "State", "read 0", "read 0 4096 06",
-    "byte 0 4096 06",
+    "byte 0 4096 06", "fill", "fill ", "fill 256", "fill 257", "fill -1", "fill x", "fill 1 65", "fill 1 -", "fill 1 x",
+    "fill 1 31 31", "fill 1 ", "fill  1", "fill 256 31", "Fill 1", "filled 1", "empty", "empty 256", "empty 258", "empty -1",
+    "empty 1 65", "empty 1 -1", "empty 1 31 31", "empty 2 ", "empty one", "emptied 1",
 )
 
 
@@ -167,6 +169,15 @@ class Maker:
             return ""
         return f" {self.pick(0, 1, 16, 29, 30, 30, 30, 31, 31, 32, 32, 33, 62, 63, 64, 64)}"
 
+    def relay(self):
+        """A relay that there is; where modules are present one in three of theirs."""
+        deck = self.box.deck()
+        return self.rng.choice(deck) if deck and self.one_in(3) else self.rng.randrange(1, 9)
+
+    def states(self):
+        """Those of relays 1 to 8."""
+        return self.box.relay_states() & 0xFF
+
     # -- lines -----------------------------------------------------------------------------------
 
     def say(self, line):
@@ -195,6 +206,9 @@ class Maker:
             self.say("power")
         else:
             self.say("power " + " ".join(str(n) for n in self.settings()))
+        for place in PLACES:
+            if self.one_in(3):
+                self.say(f"fill {place}")
         for c in range(4):
             if not self.one_in(5):
                 self.open_again(c)
@@ -292,6 +306,25 @@ class Maker:
     def lefts(self):
         """The ms that each pulse has to run."""
         return [self.box.left] + [pulse.duration for pulse in self.box.queue[1:]]
+
+    def do_place(self):
+        """Filled or emptied; sometimes again, sometimes a place that there is not."""
+        chance, place = self.rng.randrange(10), self.pick(*PLACES)
+        if chance == 0:
+            self.say(f"{self.pick('fill', 'empty')} {self.bad_place()}{self.row(4)}")
+        else:
+            self.say(f"{self.turned(place) if chance > 2 else self.again(place)} {place}{self.row(6)}")
+
+    def turned(self, place):
+        """What changes the place."""
+        return "empty" if place in self.box.filled else "fill"
+
+    def again(self, place):
+        """What does not."""
+        return "fill" if place in self.box.filled else "empty"
+
+    def bad_place(self):
+        return self.pick(0, 0, 3, 3, 3, 4, 5, 9, 13, 127, 128, 129, 130, 254, 255, self.rng.randrange(3, 256))
 
     def do_collect(self):
         c = self.rng.randrange(4) if self.one_in(6) else self.connection()
@@ -509,13 +542,21 @@ class Maker:
         return b"\x0A" + bytes([action]) + field(self.channel(), 2)
 
     def channel(self):
-        if not self.one_in(6):
+        """Often of a module, be it there or not."""
+        chance = self.rng.randrange(12)
+        if chance < 7:
             return self.rng.randrange(1, 9)
-        return self.pick(0, 0, 0, 9, 9, 9, 10, 16, 128, 255, 256, 257, 264, 0x0800, 0x8001, 0xFFFF, self.rng.randrange(65536))
+        if chance < 10:
+            return self.rng.randrange(9, 17)
+        return self.pick(0, 0, 0, 17, 17, 17, 18, 24, 128, 255, 256, 257, 264, 265, 0x0800, 0x8001, 0xFFFF,
+                         self.rng.randrange(65536))
 
     def block_command(self):
+        """Seldom in 000's layout for 16 relays."""
+        if self.one_in(40):
+            return b"\x0A\x0A" + self.rng.randbytes(4)
         mask = self.pick(0, 1, 0x06, 0x80, 0xFF, self.rng.randrange(256), self.rng.randrange(256))
-        now = self.box.relay_states()
+        now = self.states()
         state = self.pick(0, 0x02, 0x80, 0xFF, now, now, self.rng.randrange(256))
         return b"\x0A\x0A" + bytes([mask, state])
 
@@ -530,12 +571,12 @@ class Maker:
 
     def right_pulse(self, duration):
         if self.one_in(3):
-            return b"\x0A\x06" + field(self.rng.randrange(1, 9), 2) + field(duration, 4)
+            return b"\x0A\x06" + field(self.relay(), 2) + field(duration, 4)
         return self.block_pulse(self.pick(0, 0xFF, self.rng.randrange(256), self.rng.randrange(256)), duration)
 
     def block_pulse(self, mask, duration):
         """Often of states that are no change, or that are one for every masked relay."""
-        now = self.box.relay_states()
+        now = self.states()
         states = self.pick(0, 0xFF, now, now ^ 0xFF, now ^ 0xFF, self.rng.randrange(256), self.rng.randrange(256))
         return b"\x0A\x07" + bytes([mask, states]) + field(duration, 4)
 
@@ -548,8 +589,10 @@ class Maker:
 
     def an_id(self):
         chance = self.rng.randrange(100)
-        if chance < 80:
+        if chance < 75:
             return self.rng.choice(KNOWN_IDS)
+        if chance < 83:
+            return self.rng.choice(DECK_IDS)
         if chance < 97:
             return self.rng.choice(UNKNOWN_IDS)
         return self.rng.randrange(TOP64 + 1)
@@ -704,9 +747,10 @@ class Maker:
         if same == 0:
             self.say(f"level {k + 1} {inp.level}")
         elif same == 1:
-            self.send(c, b"\x0A" + bytes([2 - relay.state]) + field(k + 1, 2))
+            channel = self.relay()
+            self.send(c, b"\x0A" + bytes([2 - self.box.relays[channel - 1].state]) + field(channel, 2))
         elif same == 2:
-            self.send(c, b"\x0A\x0A" + bytes([self.pick(0xFF, self.rng.randrange(256)), self.box.relay_states()]))
+            self.send(c, b"\x0A\x0A" + bytes([self.pick(0xFF, self.rng.randrange(256)), self.states()]))
         elif same == 3:
             self.send(c, b"\x0A\x0A\x00" + bytes([self.rng.randrange(256)]))
         elif same == 4:
@@ -735,7 +779,7 @@ class Maker:
         for request in (self.pick(1, 4, 5), self.pick(4, 5)):
             self.send(c, b"\x05\x00" + bytes([request]))
             self.say(self.pick("state", f"collect {c} 4096"))
-            self.send(c, b"\x0A\x03" + field(self.rng.randrange(1, 9), 2))
+            self.send(c, b"\x0A\x03" + field(self.relay(), 2))
         self.say(f"collect {c} 4096")
         self.offer(c, self.unchecked(), 4096)                   # strict or not as before all this
 
@@ -882,9 +926,9 @@ class Maker:
         elif meanwhile == 2:
             self.send(c, b"\x17\x00\x01" + field(RELAY_IDS[k], 8) + b"\x00\x02\x01" + bytes([1 - self.box.relays[k].state]))
         elif meanwhile == 3:
-            self.send(c, b"\x0A\x03" + field(k + 1, 2))
+            self.send(c, b"\x0A\x03" + field(self.relay(), 2))
         else:
-            self.send(c, b"\x0A\x0A" + bytes([self.pick(mask, mask ^ 0xFF, 0xFF), self.box.relay_states() ^ 0xFF]))
+            self.send(c, b"\x0A\x0A" + bytes([self.pick(mask & 0xFF, ~mask & 0xFF, 0xFF), self.states() ^ 0xFF]))
         if self.one_in(2):
             self.say(f"collect {c} 4096")
         self.over_the_end(c, self.box.left)
@@ -923,7 +967,7 @@ class Maker:
         """A right pulse, or one whose duration, channel, length or action is wrong: judged before the full queue."""
         right = self.right_pulse(self.duration())
         self.send(c, self.pick(right, right, right, self.pulse_content(), right[:4] + bytes(4),
-                               b"\x0A\x06" + field(self.pick(0, 9, 257), 2) + right[4:], right[:7], right + b"\x00",
+                               b"\x0A\x06" + field(self.pick(0, 9, 12, 13, 16, 17, 257), 2) + right[4:], right[:7], right + b"\x00",
                                b"\x0A\x04" + right[2:]))
 
     def scene_byte_by_byte(self, c):
@@ -937,6 +981,122 @@ class Maker:
         for byte in message:
             self.offer(c, bytes([byte]), 4096)
 
+    # -- scenes of the second deck ---------------------------------------------------------------------
+
+    def fill_just(self, *places):
+        """These places are filled, and no other."""
+        for place in PLACES:
+            if (place in places) != (place in self.box.filled):
+                self.say(f"{self.turned(place)} {place}")
+
+    def some_places(self):
+        return self.pick((1,), (2,), (1, 2))
+
+    def of_module(self, place):
+        """A relay of the module that is there."""
+        return self.rng.choice(PLACES[place])
+
+    def look(self, c):
+        """What is so and due."""
+        self.say(self.pick("state", "state", f"collect {c} 4096"))
+
+    def scene_places(self, c):
+        """With nothing due, places are filled and emptied, also again, and others, and with short rows."""
+        for _ in range(self.pick(2, 3, 4)):
+            self.say(f"collect {c} 4096")
+            self.do_place()
+            self.look(c)
+
+    def scene_channels(self, c):
+        """Channels on both sides of an edge, for actions that go so far and for such as do not."""
+        if self.one_in(2):
+            self.fill_just(*self.pick((), (1,), (2,), (1, 2)))
+        for _ in range(self.pick(3, 4, 5)):
+            action, channel = self.pick(1, 2, 3, 3, 5, 6, 8, 9), self.pick(8, 9, 9, 10, 12, 12, 13, 13, 15, 16, 16, 17)
+            self.send(c, b"\x0A" + bytes([action]) + field(channel, 2) + (field(self.duration(), 4) if action == 6 else b""))
+        self.look(c)
+
+    def scene_removed(self, c):
+        """Relays of both decks closed or not, then a place emptied, beside another that is filled or not, and filled again."""
+        place = self.pick(*PLACES)
+        self.fill_just(*self.pick((place,), (1, 2)))
+        for _ in range(self.rng.randrange(4)):
+            self.send(c, b"\x0A\x01" + field(self.pick(self.relay(), self.of_module(place)), 2))
+        if not self.one_in(4):
+            self.say(f"collect {c} 4096")
+        self.say(f"empty {place}{self.row(6)}")
+        self.look(c)
+        self.say(f"fill {place}{self.row(6)}")
+        self.send(c, self.pick(b"\x05\x00\x01", b"\x0A\x03" + field(self.of_module(place), 2)))
+        self.look(c)
+
+    def scene_pulsed_and_removed(self, c):
+        """Pulses of a module's relays and of others; in the middle of them the module goes, and perhaps comes back."""
+        place = self.pick(*PLACES)
+        self.fill_just(*self.pick((place,), (1, 2)))
+        for _ in range(self.rng.randrange(3)):
+            self.send(c, b"\x0A\x03" + field(self.of_module(place), 2))
+        if self.one_in(2) and self.box.queue:
+            self.say(f"pass {min(sum(self.lefts()), TOP32)}")
+        for _ in range(self.pick(1, 2, 3)):
+            of_module = b"\x0A\x06" + field(self.of_module(place), 2) + field(self.pick(1, 2, 3, 9, self.rng.randrange(1, 2000)), 4)
+            self.send(c, self.pick(of_module, of_module, self.right_pulse(self.pick(1, 2, 7))))
+        if self.box.queue and self.one_in(2):
+            self.say(f"pass {self.rng.randrange(min(self.box.left, TOP32))}")
+        if self.one_in(3):
+            self.say(f"collect {c} 4096")
+        self.say(f"empty {place}{self.row(6)}")
+        self.look(c)
+        if self.one_in(2):
+            self.say(f"fill {place}")
+            self.send(c, b"\x0A\x03" + field(self.of_module(place), 2))
+        for _ in range(self.pick(1, 2)):
+            if self.box.queue:
+                self.over_the_end(c, self.box.left)
+
+    def scene_two_marks(self, c):
+        """Each of the two Monitor messages due or not; then a request, and they are collected."""
+        first, second = self.pick((0, 0), (0, 1), (1, 0), (1, 1))
+        self.send(c, b"\x05\x00\x05")
+        self.fill_just(*() if first and not second else self.some_places())
+        self.say(f"collect {c} 4096")
+        if first:
+            k = self.rng.randrange(8)
+            self.say(f"level {k + 1} {1 - self.box.inputs[k].level}")
+            if not second:
+                self.fill_just(*self.pick((), (1,), (2,), (1, 2)))
+        elif second:
+            self.send(c, b"\x0A\x03" + field(self.rng.choice(self.box.deck()), 2))
+        for _ in range(self.pick(1, 1, 2)):
+            self.send(c, b"\x05\x00" + bytes([self.pick(0, 1, 1, 4, 5)]))
+            if self.one_in(2):
+                self.say("state")
+        self.say(f"collect {c} 4096")
+
+    def scene_opened_beside_modules(self, c):
+        """Opened anew at each rank, with modules and without; then something changes."""
+        self.fill_just(*self.pick((), (1,), (2,), (1, 2)))
+        self.say(f"close {c}")
+        self.say(f"open {c} {self.pick(0, 1, 2)}{self.strict()}")
+        self.look(c)
+        k = self.rng.randrange(8)
+        self.say(f"level {k + 1} {1 - self.box.inputs[k].level}")
+        self.look(c)
+
+    def scene_deck_ids(self, c):
+        """Listed, read and written, with modules and without: together with others, which are as ever."""
+        self.fill_just(*self.pick((), (1,), (2,), (1, 2)))
+        self.send(c, b"\x1A" + bytes([self.pick(1, 1, 2, 3)]))
+        if self.one_in(2):
+            ids = [self.pick(self.rng.choice(DECK_IDS), self.rng.choice(DECK_IDS), self.an_id()) for _ in range(self.pick(1, 2, 3))]
+            self.send(c, b"\x15" + field(len(ids), 2) + b"".join(field(id, 8) for id in ids))
+        else:
+            id, block = field(self.rng.choice(DECK_IDS), 8), self.pick(b"\x01\x01", b"\x00", b"\x02", self.relay_block())
+            entries = [id + field(len(block), 2) + block] + [self.entry() for _ in range(self.rng.randrange(3))]
+            self.rng.shuffle(entries)
+            self.send(c, b"\x17" + field(len(entries), 2) + b"".join(entries))
+            self.look(c)
+
     # -- the whole ---------------------------------------------------------------------------------------
 
     MESSAGES = ((right_or_wrong, 70), (keep_alive, 8), (stray, 6), (empty_content, 4), (wrong_type, 5), (oversize, 4),
@@ -949,10 +1109,12 @@ class Maker:
               scene_there_and_back, scene_monitor_off_and_on, scene_half_and_close, scene_two_halves, scene_byte_by_byte,
               scene_meanwhile, scene_meanwhile, scene_cancelling, scene_cancelling, scene_full_queue, scene_truly_0xffff,
               scene_strict_anew, scene_two_strictnesses, scene_lengths_in_a_row, scene_lengths_in_a_row, scene_place_gone,
-              scene_place_gone, scene_wrong_length_without_a_rank)
+              scene_place_gone, scene_wrong_length_without_a_rank, scene_places, scene_channels, scene_removed,
+              scene_pulsed_and_removed, scene_pulsed_and_removed, scene_two_marks, scene_two_marks, scene_opened_beside_modules,
+              scene_deck_ids)
 
     STEPS = ((do_talk, 70), (do_level, 7), (do_pass, 5), (do_collect, 7), (do_open, 6), (do_close, 2.5), (do_state, 5),
-             (do_power, .4), (do_bad_line, 2), (do_scene, 6))
+             (do_power, .4), (do_bad_line, 2), (do_place, 2), (do_scene, 8.5))
 
     def make(self, events):
         if not self.one_in(5):                                  # the tool starts as after `power`

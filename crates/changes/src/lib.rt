@@ -8,16 +8,17 @@ ghost use Rattle.rows.specs.Held.{switched};
 ghost use Rattle.edits.specs.Edits.{inputEdited, relayEdited};
 ghost use Rattle.changes.specs.Answers.{Makes, noChange, sameAgain, differ, onInput, onRelay};
 ghost use Rattle.changes.specs.Levels.{hasLevel, levelOf};
-ghost use Rattle.changes.specs.Commands.{closeRelay, openRelay, toggleRelay, clearCount, clearInputUsage, clearRelayUsage, masked, blockOf};
+ghost use Rattle.changes.specs.Commands.{closeRelay, openRelay, toggleRelay, clearCount, clearInputUsage, clearRelayUsage, onPresent, masked, blockOf};
 ghost use Rattle.changes.specs.Entries.{writeInput, writeRelay};
 use edits::InputEdit;
 use edits::RelayEdit;
+use modules::Moved;
 use rows::ROWS;
 
-// 01's answer number, and whether a level or a relay's state really changed.
+// 01's answer number, and what really changed: a level or a relay's state, on which deck.
 pub struct Changed {
     pub answer: u8,
-    pub changed: bool,
+    pub changed: Moved,
 }
 
 // Out of range, 11: nothing is changed.
@@ -26,7 +27,10 @@ pub fn refuse() -> Changed
 {
     Changed {
         answer: numbers::OUT_OF_RANGE,
-        changed: false,
+        changed: Moved {
+            inner: false,
+            outer: false,
+        },
     }
 }
 
@@ -36,7 +40,10 @@ fn unchanged() -> Changed
 {
     Changed {
         answer: numbers::SERVED,
-        changed: false,
+        changed: Moved {
+            inner: false,
+            outer: false,
+        },
     }
 }
 
@@ -53,24 +60,32 @@ fn edit_input(board: &mut [[u64; 8]; ROWS], channel: u16, edit: InputEdit) -> Ch
     rows::put_input(board, k, i);
     Changed {
         answer: numbers::SERVED,
-        changed: was.level != i.level,
+        changed: Moved {
+            inner: was.level != i.level,
+            outer: false,
+        },
     }
 }
 
-// Every edit of one relay, in the same way.
-fn edit_relay(board: &mut [[u64; 8]; ROWS], channel: u16, edit: RelayEdit) -> Changed
-    ensures { λ r. ⌜ Makes (onRelay (relayEdited edit) channel (now (board .entry))) (now (board .exit)) r ⌝ }
+// Every edit of one relay, in the same way; whether it may be edited is told.
+fn edit_relay(
+    board: &mut [[u64; 8]; ROWS],
+    there: bool,
+    channel: u16,
+    edit: RelayEdit,
+) -> Changed
+    ensures { λ r. ⌜ Makes (onRelay there (relayEdited edit) channel (now (board .entry))) (now (board .exit)) r ⌝ }
 {
-    let k = channel as usize;
-    if !rows::is_channel(k) {
+    if !there {
         return refuse();
     }
+    let k = channel as usize;
     let was = rows::relay_at(board, k);
     let r = edits::edited_relay(was, edit);
     rows::put_relay(board, k, r);
     Changed {
         answer: numbers::SERVED,
-        changed: was.closed != r.closed,
+        changed: modules::moved_at(k, was.closed != r.closed),
     }
 }
 
@@ -97,23 +112,32 @@ pub fn level(board: &mut [[u64; 8]; ROWS], input: u8, level: u8) -> Changed
     edit_input(board, input as u16, InputEdit::Tell(on))
 }
 
-// The actions of a Command message that have a channel, in the order of their numbers: 1, 2, 3, 5, 8 and 9.
+// An edit of any relay that is there, the second deck's too.
+fn switch_relay(board: &mut [[u64; 8]; ROWS], channel: u16, edit: RelayEdit) -> Changed
+    ensures { λ r. ⌜ Makes (onPresent (relayEdited edit) channel (now (board .entry))) (now (board .exit)) r ⌝ }
+{
+    let there = modules::is_present(board, channel as usize);
+    edit_relay(board, there, channel, edit)
+}
+
+// The actions of a Command message that have a channel, in the order of their numbers: 1, 2, 3, 5, 8 and 9. The first three have any relay that
+// is there, the others a channel of the box's own.
 pub fn close_relay(board: &mut [[u64; 8]; ROWS], channel: u16) -> Changed
     ensures { λ r. ⌜ Makes (closeRelay channel (now (board .entry))) (now (board .exit)) r ⌝ }
 {
-    edit_relay(board, channel, RelayEdit::Close)
+    switch_relay(board, channel, RelayEdit::Close)
 }
 
 pub fn open_relay(board: &mut [[u64; 8]; ROWS], channel: u16) -> Changed
     ensures { λ r. ⌜ Makes (openRelay channel (now (board .entry))) (now (board .exit)) r ⌝ }
 {
-    edit_relay(board, channel, RelayEdit::Open)
+    switch_relay(board, channel, RelayEdit::Open)
 }
 
 pub fn toggle_relay(board: &mut [[u64; 8]; ROWS], channel: u16) -> Changed
     ensures { λ r. ⌜ Makes (toggleRelay channel (now (board .entry))) (now (board .exit)) r ⌝ }
 {
-    edit_relay(board, channel, RelayEdit::Toggle)
+    switch_relay(board, channel, RelayEdit::Toggle)
 }
 
 pub fn clear_count(board: &mut [[u64; 8]; ROWS], channel: u16) -> Changed
@@ -131,7 +155,8 @@ pub fn clear_input_usage(board: &mut [[u64; 8]; ROWS], channel: u16) -> Changed
 pub fn clear_relay_usage(board: &mut [[u64; 8]; ROWS], channel: u16) -> Changed
     ensures { λ r. ⌜ Makes (clearRelayUsage channel (now (board .entry))) (now (board .exit)) r ⌝ }
 {
-    edit_relay(board, channel, RelayEdit::ClearUsage)
+    let there = rows::is_channel(channel as usize);
+    edit_relay(board, there, channel, RelayEdit::ClearUsage)
 }
 
 // Relay k takes a state if it is chosen; whether that changed it.
@@ -155,18 +180,21 @@ fn either(a: bool, b: bool) -> bool
     a || b
 }
 
-// Action 10, and a pulse: the masked relays take their state, the lowest bit channel 1. The bits above the eighth name no relay.
+// Action 10, and a pulse: the masked relays take their state, the lowest bit relay 1.
 pub fn block(board: &mut [[u64; 8]; ROWS], mask: u16, state: u16) -> Changed
     ensures { λ r. ⌜ Makes (blockOf mask state (now (board .entry))) (now (board .exit)) r ⌝ }
 {
-    let mut changed = false;
-    for k in 0..8 {
+    let mut inner = false;
+    let mut outer = false;
+    for k in 0..16 {
         let moved = mask_relay(board, k + 1, edits::bit(mask, k), edits::bit(state, k));
-        changed = either(changed, moved);
+        let deck = modules::moved_at(k + 1, moved);
+        inner = either(inner, deck.inner);
+        outer = either(outer, deck.outer);
     }
     Changed {
         answer: numbers::SERVED,
-        changed,
+        changed: Moved { inner, outer },
     }
 }
 
@@ -187,5 +215,6 @@ pub fn write_relay(board: &mut [[u64; 8]; ROWS], k: u8, flags: u8, state: u8) ->
     if edits::relay_fails(flags, state) {
         return refuse();
     }
-    edit_relay(board, k as u16, RelayEdit::Write(flags, state))
+    let there = rows::is_channel(k as usize);
+    edit_relay(board, there, k as u16, RelayEdit::Write(flags, state))
 }

@@ -1,10 +1,17 @@
-// The due marks of the connections, which are set here, in one place. It knows no messages, no events and no half-read messages.
+// The due marks of the connections, one for the Monitor message and one for the External Monitor message, which are set here, in one place.
+// It knows no messages, no events and no half-read messages.
 // Takes every board, nonsense words too.
 
 ghost use mathlib.Core.Path.{_≡_};
 ghost use mathlib.Core.Bool.{_&&_, cond};
-ghost use Rattle.rows.specs.Places.{lineAt, dueSet};
-ghost use Rattle.marks.specs.Marks.{hasRank, watches, marked};
+ghost use Prim.Native.Nat.{_<_};
+ghost use lib.ListN.{set};
+ghost use Rattle.rows.specs.Rows.{externalWord};
+ghost use Rattle.rows.specs.Places.{rowAt, linePlace, lineAt, dueSet};
+ghost use Rattle.marks.specs.Marks.{hasRank, watches, anyMoved, marked, externalCleared};
+use modules::Moved;
+use rows::EXTERNAL;
+use rows::FIRST_LINE;
 use rows::Line;
 use rows::ROWS;
 
@@ -27,21 +34,46 @@ fn watching(l: Line) -> bool
     both(l.isOpen, both(has_rank(l.rank), l.monitor))
 }
 
-fn mark_line(board: &mut [[u64; 8]; ROWS], c: usize)
-    ensures { λ u. ⌜ now (board .exit) ≡ cond (watches (lineAt c (now (board .entry)))) (dueSet c (now (board .entry))) (now (board .entry)) ⌝ }
+fn mark_line(board: &mut [[u64; 8]; ROWS], c: usize, due: bool, external: bool)
+    ensures { λ u. ⌜ now (board .exit) ≡ cond (watches (lineAt c (now (board .entry)))) (dueSet c due external (now (board .entry))) (now (board .entry)) ⌝ }
 {
     if watching(rows::line_at(board, c)) {
-        rows::set_due(board, c);
+        rows::set_due(board, c, due, external);
     }
 }
 
-// The marks that follow from a change.
-pub fn mark(board: &mut [[u64; 8]; ROWS], changed: bool)
-    ensures { λ u. ⌜ now (board .exit) ≡ marked changed (now (board .entry)) ⌝ }
+// Whether there was a change.
+fn any_moved(m: Moved) -> bool
+    ensures { λ r. ⌜ r ≡ anyMoved m ⌝ }
 {
-    if changed {
+    if m.inner { true } else { m.outer }
+}
+
+// The marks that follow from a change, on whichever deck: the first deck's marks the Monitor message, and while a module is present either
+// deck's marks the External Monitor message.
+pub fn mark(board: &mut [[u64; 8]; ROWS], moved: Moved)
+    ensures { λ u. ⌜ now (board .exit) ≡ marked moved (now (board .entry)) ⌝ }
+{
+    if any_moved(moved) {
+        let external = modules::has_module(board);
         for c in 0..4 {
-            mark_line(board, c);
+            mark_line(board, c, moved.inner, external);
         }
+    }
+}
+
+fn clear_line(board: &mut [[u64; 8]; ROWS], c: usize)
+    requires { ⌜ c < 4 ⌝ }
+    ensures { λ u. ⌜ now (board .exit) ≡ set (now (board .entry)) (linePlace c) (set (rowAt (linePlace c) (now (board .entry))) externalWord 0) ⌝ }
+{
+    board[c + FIRST_LINE][EXTERNAL] = 0;
+}
+
+// Every mark of the External Monitor message is cleared.
+pub fn clear_external(board: &mut [[u64; 8]; ROWS])
+    ensures { λ u. ⌜ now (board .exit) ≡ externalCleared (now (board .entry)) ⌝ }
+{
+    for c in 0..4 {
+        clear_line(board, c);
     }
 }

@@ -60,7 +60,7 @@ states-bit (suc n) k b h =
 -- ---- the loop that puts them together: k relays are in
 
 pub record Joining (b : Board) (states k : ℕ) : Type 0 where
-  pub in-range : k ≤ 8
+  pub in-range : k ≤ 16
   pub so-far : states ≡ statesBelow k b
 
 module _ {b : Board} where
@@ -71,10 +71,10 @@ module _ {b : Board} where
   pub join-fits : {states k : ℕ} → Joining b states k → states < 2 ^ k
   join-fits {k = k} m = rw (m .so-far) (states-small k b)
 
-  pub join-turn : {states after k : ℕ} {closed : Bool} → Joining b states k → k < 8 → closed ≡ relayAt (k + 1) b .closed
+  pub join-turn : {states after k : ℕ} {closed : Bool} → Joining b states k → k < 16 → closed ≡ relayAt (k + 1) b .closed
       → after ≡ states + cond closed (2 ^ k) 0 → Joining b after (k + 1)
   unfolding statesBelow
   join-turn {k = k} m h e f = record { in-range = omega arith; so-far = f ∙ rw (e, m .so-far, add-one) }
 
-  pub join-done : {states k : ℕ} → Joining b states k → 8 ≤ k → states ≡ statesOf b
+  pub join-done : {states k : ℕ} → Joining b states k → 16 ≤ k → states ≡ statesOf b
   join-done m h = m .so-far ∙ ap (λ (n : ℕ). statesBelow n b) (le-antisymm (m .in-range) h)

@@ -1,6 +1,5 @@
 -- What passing time, a change of relays, the marks and a store to the queue's row all keep, pulses keep: a request, and time with its ends and
 -- beginnings.
-use mathlib.Core.Bool.{Bool}
 use mathlib.Core.List.{List}
 use Prim.Native.Nat.{ℕ, zero, suc}
 use lib.ListN.{set}
@@ -9,6 +8,7 @@ use Rattle.rows.specs.declared.Queue.{Queue}
 use Rattle.rows.specs.Places.{Board, queueRow, queueOf, putQueue, leftSet}
 use Rattle.tables.specs.Time.{passed}
 use Rattle.changes.specs.Commands.{blockOf}
+use Rattle.modules.specs.declared.Moved.{Moved}
 use Rattle.marks.specs.Marks.{marked}
 use Rattle.ring.specs.declared.Pulse.{Pulse}
 use Rattle.pulses.specs.Pulses.{endsWithin, switched, begun, ended, turned, waited, tick, elapsed, accepted}
@@ -17,7 +17,7 @@ use Rattle.ring.specs.Ring.{runs}
 pub record Keeps (P : Board → Type 0) : Type 0 where
   pub time : (d : ℕ) (b : Board) → P b → P (passed d b)
   pub change : (mask states : ℕ) (b : Board) → P b → P (blockOf mask states b .board)
-  pub marks : (changed : Bool) (b : Board) → P b → P (marked changed b)
+  pub marks : (moved : Moved) (b : Board) → P b → P (marked moved b)
   pub store : (row : List ℕ) (b : Board) → P b → P (set b queueRow row)
 
 module _ {P : Board → Type 0} (k : Keeps P) where

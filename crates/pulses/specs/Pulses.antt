@@ -23,7 +23,7 @@ statesBelow zero b = 0
 statesBelow (suc n) b = statesBelow n b + cond (relayAt (suc n) b .closed) (2 ^ n) 0
 
 abbrev pub statesOf : Board → ℕ
-statesOf b = statesBelow 8 b
+statesOf b = statesBelow 16 b
 
 -- 02, M-100, 3: the masked relays take these states, at a beginning or an end: a change by itself, whose marks follow at once
 unfoldable pub switched : ℕ → ℕ → Board → Board

@@ -47,7 +47,7 @@ pub fn push(board: &mut [[u64; 8]; ROWS], p: Pulse) -> u8
 
 // The states with that of the relay behind the first k.
 fn with_relay(states: u64, k: usize, closed: bool) -> u64
-    requires { ⌜ (k < 8) × (states < 2 ^ k) ⌝ }
+    requires { ⌜ (k < 16) × (states < 2 ^ k) ⌝ }
     ensures { λ r. ⌜ r ≡ states + cond closed (2 ^ k) 0 ⌝ }
 {
     if closed {
@@ -69,7 +69,7 @@ fn states_of(board: &[[u64; 8]; ROWS]) -> u64
     ensures { λ r. ⌜ r ≡ statesOf (now (board .entry)) ⌝ }
 {
     let mut states: u64 = 0;
-    for k in 0..8 {
+    for k in 0..16 {
         states = with_relay(states, k, is_closed(board, k + 1));
     }
     states

@@ -5,16 +5,16 @@ use Prim.Native.Nat.{ℕ, _+_, _-_, _%_, _^_, min}
 use lib.Dec.{leb, ltb}
 use lib.ListN.{getD, set}
 use Rattle.rows.specs.declared.Queue.{Queue}
-use Rattle.rows.specs.Places.{Board, isChannel, queueOf}
+use Rattle.rows.specs.Places.{Board, isRelay, queueOf}
 use Rattle.ring.specs.declared.Pulse.{Pulse}
 
 -- 02, M-100, 1: which relays a pulse takes, the states it gives them, and for how many ms
 abbrev pub pulseOf : ℕ → ℕ → ℕ → Pulse
 pulseOf mask states ms = record { mask = mask; states = states; duration = ms }
 
--- 02, M-100, 1: action 6: the pulse of one relay: mask and states have its bit, the lowest relay 1
+-- 02, M-100, 1, and M-102, 2: action 6: the pulse of one relay, 1 to 16: mask and states have its bit, the lowest relay 1
 unfoldable pub relayPulse : ℕ → ℕ → Pulse
-relayPulse k ms = let bit : ℕ = cond (isChannel k) (2 ^ (k - 1)) 0 in pulseOf bit bit ms
+relayPulse k ms = let bit : ℕ = cond (isRelay k) (2 ^ (k - 1)) 0 in pulseOf bit bit ms
 
 -- 02, M-100, 5: record i of the lent row; one that is not there reads as no pulse
 abbrev pub pulseAt : List Pulse → ℕ → Pulse

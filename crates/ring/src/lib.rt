@@ -22,7 +22,7 @@ pub fn relay_pulse(k: u16, duration: u32) -> Pulse
     ensures { λ r. ⌜ r ≡ relayPulse k duration ⌝ }
 {
     let mut mask: u16 = 0;
-    if rows::is_channel(k as usize) {
+    if rows::is_relay(k as usize) {
         mask = 1 << (k - 1);
     }
     Pulse {

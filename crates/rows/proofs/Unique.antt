@@ -10,6 +10,7 @@ use Rattle.rows.proofs.line_words.Reads as line-words
 use Rattle.rows.proofs.queue_in.Reads as queue-in
 use Rattle.rows.proofs.queue_words.Reads as queue-words
 use Rattle.rows.proofs.is_channel.Reads as is-channel
+use Rattle.rows.proofs.is_relay.Reads as is-relay
 use Rattle.rows.proofs.input_at.Reads as input-at
 use Rattle.rows.proofs.put_input.Reads as put-input
 use Rattle.rows.proofs.relay_at.Reads as relay-at
@@ -49,6 +50,9 @@ unique-queue-words κs a r r′ s s′ p q = p ∙ sym q
 
 pub unique-is-channel : (κs : _) (a : _) (r r′ : _) (s s′ : _) → is-channel.Post κs a r s → is-channel.Post κs a r′ s′ → r ≡ r′
 unique-is-channel κs a r r′ s s′ p q = p ∙ sym q
+
+pub unique-is-relay : (κs : _) (a : _) (r r′ : _) (s s′ : _) → is-relay.Post κs a r s → is-relay.Post κs a r′ s′ → r ≡ r′
+unique-is-relay κs a r r′ s s′ p q = p ∙ sym q
 
 pub unique-input-at : (κs : _) (a : _) (r r′ : _) (s s′ : _) → input-at.Post κs a r s → input-at.Post κs a r′ s′ → r ≡ r′
 unique-input-at κs a r r′ s s′ p q = p ∙ sym q

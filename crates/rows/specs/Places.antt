@@ -14,24 +14,31 @@ use Rattle.rows.specs.Rows.{word, inputIn, inputWords, relayIn, relayWor
 abbrev pub Board : Type 0
 Board = List (List ℕ)
 
--- the first row of each kind, and the number of rows: here alone, as in the code; what comes new is appended
+-- the first row of each kind, and the number of rows: here alone, as in the code
 abbrev pub firstInput : ℕ
 firstInput = 0
 
 abbrev pub firstRelay : ℕ
 firstRelay = 8
 
+-- relays 9 to 16
+abbrev pub firstOuter : ℕ
+firstOuter = 16
+
 abbrev pub clockRow : ℕ
-clockRow = 16
+clockRow = 24
 
 abbrev pub firstLine : ℕ
-firstLine = 17
+firstLine = 25
 
 abbrev pub queueRow : ℕ
-queueRow = 21
+queueRow = 29
+
+abbrev pub firstPlace : ℕ
+firstPlace = 30
 
 abbrev pub rows : ℕ
-rows = 22
+rows = 32
 
 -- the row of input k, of relay k, of connection c; channels are counted from 1, connections from 0
 abbrev pub inputPlace : ℕ → ℕ
@@ -47,6 +54,10 @@ linePlace c = c + firstLine
 abbrev pub isChannel : ℕ → Bool
 isChannel k = leb 1 k && leb k 8
 
+-- 02, M-102, 2: relays have the numbers 1 to 16
+abbrev pub isRelay : ℕ → Bool
+isRelay k = leb 1 k && leb k 16
+
 -- 01, What the box holds, 4: connections have the numbers 0 to 3
 abbrev pub isConnection : ℕ → Bool
 isConnection c = ltb c 4
@@ -61,7 +72,7 @@ inputAt k b = cond (isChannel k) (inputIn (rowAt (inputPlace k) b)) blankInput
 
 -- relay k, likewise
 unfoldable pub relayAt : ℕ → Board → Relay
-relayAt k b = cond (isChannel k) (relayIn (rowAt (relayPlace k) b)) blankRelay
+relayAt k b = cond (isRelay k) (relayIn (rowAt (relayPlace k) b)) blankRelay
 
 -- connection c; a number that is none's reads as shut
 unfoldable pub lineAt : ℕ → Board → Line
@@ -72,14 +83,14 @@ unfoldable pub putInput : ℕ → Input → Board → Board
 putInput k i b = cond (isChannel k) (set b (inputPlace k) (inputWords i)) b
 
 unfoldable pub putRelay : ℕ → Relay → Board → Board
-putRelay k r b = cond (isChannel k) (set b (relayPlace k) (relayWords (rowAt (relayPlace k) b) r)) b
+putRelay k r b = cond (isRelay k) (set b (relayPlace k) (relayWords (rowAt (relayPlace k) b) r)) b
 
 unfoldable pub putLine : ℕ → Line → Board → Board
 putLine c l b = cond (isConnection c) (set b (linePlace c) (lineWords l)) b
 
--- the board with the mark of connection c set, likewise
-unfoldable pub dueSet : ℕ → Board → Board
-dueSet c b = cond (isConnection c) (set b (linePlace c) (dueWords (rowAt (linePlace c) b))) b
+-- the board with one mark of connection c set, or the other, or both, likewise
+unfoldable pub dueSet : ℕ → Bool → Bool → Board → Board
+dueSet c due external b = cond (isConnection c) (set b (linePlace c) (dueWords due external (rowAt (linePlace c) b))) b
 
 -- 01, What the box holds, 3: the clock is the first word of its row
 abbrev pub clockOf : Board → ℕ

@@ -52,16 +52,36 @@ relayIn w = record { closed = isOn (word stateWord w); usage = word usageWord w;
 abbrev pub relayWords : List ℕ → Relay → List ℕ
 relayWords w r = flagged (r .closed) ∷ word 1 w ∷ word 2 w ∷ word 3 w ∷ word 4 w ∷ r .usage ∷ r .usageSetpoint ∷ word 7 w ∷ []
 
+-- 01, What the box holds, 4, and 02, M-102, 4: the words of a connection's row that are its marks: Monitor is due, External Monitor is
+abbrev pub dueWord : ℕ
+dueWord = 3
+
+abbrev pub externalWord : ℕ
+externalWord = 5
+
 -- 01, What the box holds, 4, and 02, M-103, 2: a connection in its row, without its half-read message, and its words
 abbrev pub lineIn : List ℕ → Line
-lineIn w = record { isOpen = isOn (word 0 w); rank = word 1 w; monitor = isOn (word 2 w); due = isOn (word 3 w); strict = word 4 w }
+lineIn w =
+    record {
+      isOpen = isOn (word 0 w);
+      rank = word 1 w;
+      monitor = isOn (word 2 w);
+      due = isOn (word dueWord w);
+      strict = word 4 w;
+      external = isOn (word externalWord w);
+    }
 
 abbrev pub lineWords : Line → List ℕ
-lineWords l = flagged (l .isOpen) ∷ l .rank ∷ flagged (l .monitor) ∷ flagged (l .due) ∷ l .strict ∷ 0 ∷ 0 ∷ 0 ∷ []
+lineWords l = flagged (l .isOpen) ∷ l .rank ∷ flagged (l .monitor) ∷ flagged (l .due) ∷ l .strict ∷ flagged (l .external) ∷ 0 ∷ 0 ∷ []
 
--- 01, Events, 6: a connection's row with the mark set; no other word changes
-abbrev pub dueWords : List ℕ → List ℕ
-dueWords w = word 0 w ∷ word 1 w ∷ word 2 w ∷ flagged true ∷ word 4 w ∷ word 5 w ∷ word 6 w ∷ word 7 w ∷ []
+-- a mark, set or left as it is
+abbrev pub markWord : Bool → ℕ → ℕ
+markWord marks was = cond marks (flagged true) was
+
+-- 01, Events, 6, and 02, M-102, 4: a connection's row with one mark set, or the other, or both; no other word changes
+abbrev pub dueWords : Bool → Bool → List ℕ → List ℕ
+dueWords due external w =
+    word 0 w ∷ word 1 w ∷ word 2 w ∷ markWord due (word dueWord w) ∷ word 4 w ∷ markWord external (word externalWord w) ∷ word 6 w ∷ word 7 w ∷ []
 
 -- 02, M-100, 4: the word of the queue's row that falls with time: the ms left of the running pulse
 abbrev pub leftWord : ℕ

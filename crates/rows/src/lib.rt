@@ -4,27 +4,38 @@
 // and a store to it does nothing.
 
 ghost use mathlib.Core.Path.{_≡_};
+ghost use mathlib.Core.Bool.{cond};
 ghost use Rattle.rows.specs.Rows.{flagged, inputIn, inputWords, relayIn, relayWords, lineIn, lineWords, dueWords, queueIn, queueWords};
-ghost use Rattle.rows.specs.Places.{isChannel, inputAt, putInput, relayAt, putRelay, lineAt, putLine, dueSet};
+ghost use Rattle.rows.specs.Places.{isChannel, isRelay, inputAt, putInput, relayAt, putRelay, lineAt, putLine, dueSet};
 ghost use Rattle.rows.specs.Places.{clockOf, clockSet, queueOf, putQueue, leftSet};
 
-// The first row of each kind, and the number of rows: here alone, as in specs/Places; what comes new is appended.
+// The first row of each kind, and the number of rows: here alone, as in specs/Places.
 pub const FIRST_INPUT: usize = 0;
 
 pub const FIRST_RELAY: usize = 8;
 
-pub const CLOCK: usize = 16;
+// relays 9 to 16
+pub const FIRST_OUTER: usize = 16;
 
-pub const FIRST_LINE: usize = 17;
+pub const CLOCK: usize = 24;
 
-pub const QUEUE: usize = 21;
+pub const FIRST_LINE: usize = 25;
 
-pub const ROWS: usize = 22;
+pub const QUEUE: usize = 29;
+
+pub const FIRST_PLACE: usize = 30;
+
+pub const ROWS: usize = 32;
 
 // The words that the rows of inputs and relays have in common: on or closed, and the usage that grows then.
 pub const STATE: usize = 0;
 
 pub const USAGE: usize = 5;
+
+// The words of a connection's row that are its marks: the Monitor message is due, the External Monitor message is.
+pub const DUE: usize = 3;
+
+pub const EXTERNAL: usize = 5;
 
 // The word of the queue's row that falls with time: the ms left of the running pulse.
 pub const LEFT: usize = 2;
@@ -46,13 +57,15 @@ pub struct Relay {
     pub usageSetpoint: u64,
 }
 
-// A connection, without its half-read message; strict is what its opening said. A shut one is all zero.
+// A connection, without its half-read message; strict is what its opening said, external whether the External Monitor message is due. A shut
+// one is all zero.
 pub struct Line {
     pub isOpen: bool,
     pub rank: u64,
     pub monitor: bool,
     pub due: bool,
     pub strict: u64,
+    pub external: bool,
 }
 
 // The queue of pulses, without its records, which stand in a row of their own: the place of the first, which runs, and how many stand; of the
@@ -137,8 +150,9 @@ pub fn line_in(row: [u64; 8]) -> Line
         isOpen: row[0] != 0,
         rank: row[1],
         monitor: row[2] != 0,
-        due: row[3] != 0,
+        due: row[DUE] != 0,
         strict: row[4],
+        external: row[EXTERNAL] != 0,
     }
 }
 
@@ -151,17 +165,33 @@ pub fn line_words(l: Line) -> [u64; 8]
         flag(l.monitor),
         flag(l.due),
         l.strict,
-        0,
+        flag(l.external),
         0,
         0,
     ]
 }
 
-// A connection's row with the mark set; every other word stays.
-fn due_words(row: [u64; 8]) -> [u64; 8]
-    ensures { λ w. ⌜ w ≡ dueWords row ⌝ }
+// A mark, set or left as it is.
+fn mark_word(set: bool, was: u64) -> u64
+    ensures { λ w. ⌜ w ≡ cond set 1 was ⌝ }
 {
-    [row[0], row[1], row[2], 1, row[4], row[5], row[6], row[7]]
+    if set { 1 } else { was }
+}
+
+// A connection's row with one mark set, or the other, or both; every other word stays.
+fn due_words(row: [u64; 8], due: bool, external: bool) -> [u64; 8]
+    ensures { λ w. ⌜ w ≡ dueWords due external row ⌝ }
+{
+    [
+        row[0],
+        row[1],
+        row[2],
+        mark_word(due, row[DUE]),
+        row[4],
+        mark_word(external, row[EXTERNAL]),
+        row[6],
+        row[7],
+    ]
 }
 
 pub fn queue_in(row: [u64; 8]) -> Queue
@@ -195,11 +225,18 @@ pub fn queue_words(q: Queue) -> [u64; 8]
 
 // ---- the rows of the board
 
-// The one place where a channel is judged.
+// The one place where a channel of the box's own inputs and relays is judged.
 pub fn is_channel(k: usize) -> bool
     ensures { λ r. ⌜ r ≡ isChannel k ⌝ }
 {
     1 <= k && k <= 8
+}
+
+// Whether a relay can have this number: the box's own, or one of the second deck, whose module may be absent.
+pub fn is_relay(k: usize) -> bool
+    ensures { λ r. ⌜ r ≡ isRelay k ⌝ }
+{
+    1 <= k && k <= 16
 }
 
 pub fn input_at(board: &[[u64; 8]; ROWS], k: usize) -> Input
@@ -223,7 +260,7 @@ pub fn put_input(board: &mut [[u64; 8]; ROWS], k: usize, i: Input)
 pub fn relay_at(board: &[[u64; 8]; ROWS], k: usize) -> Relay
     ensures { λ r. ⌜ r ≡ relayAt k (now (board .entry)) ⌝ }
 {
-    if is_channel(k) {
+    if is_relay(k) {
         let row = board[k - 1 + FIRST_RELAY];
         return relay_in(row);
     }
@@ -233,7 +270,7 @@ pub fn relay_at(board: &[[u64; 8]; ROWS], k: usize) -> Relay
 pub fn put_relay(board: &mut [[u64; 8]; ROWS], k: usize, r: Relay)
     ensures { λ u. ⌜ now (board .exit) ≡ putRelay k r (now (board .entry)) ⌝ }
 {
-    if is_channel(k) {
+    if is_relay(k) {
         let at = k - 1 + FIRST_RELAY;
         let row = board[at];
         board[at] = relay_words(row, r);
@@ -258,14 +295,14 @@ pub fn put_line(board: &mut [[u64; 8]; ROWS], c: usize, l: Line)
     }
 }
 
-// The mark of a connection, and no other word of it.
-pub fn set_due(board: &mut [[u64; 8]; ROWS], c: usize)
-    ensures { λ u. ⌜ now (board .exit) ≡ dueSet c (now (board .entry)) ⌝ }
+// One mark of a connection, or the other, or both, and no other word of it.
+pub fn set_due(board: &mut [[u64; 8]; ROWS], c: usize, due: bool, external: bool)
+    ensures { λ u. ⌜ now (board .exit) ≡ dueSet c due external (now (board .entry)) ⌝ }
 {
     if c < 4 {
         let at = c + FIRST_LINE;
         let row = board[at];
-        board[at] = due_words(row);
+        board[at] = due_words(row, due, external);
     }
 }
 

@@ -9,7 +9,7 @@ abbrev Inv-loop : tie.InvT-loop
 Inv-loop board states₀ k₀ states k = Joining board states k
 
 abbrev μ-loop : tie.MeasureT-loop
-μ-loop board states₀ k₀ states k = 8 - k
+μ-loop board states₀ k₀ states k = 16 - k
 
 pub states-of-spec : {M : Type 1} → statement M
 states-of-spec =

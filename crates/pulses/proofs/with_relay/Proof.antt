@@ -13,6 +13,6 @@ with-relay-spec =
     (λ c. search needs)
     (λ c. let s = c .before in
     let k = s .args .k in
-    omega (arith, s .pre, weight k 64 (omega (arith, s .pre)), pow-mono {i = k} {j = 8} (omega (arith, s .pre))))
+    omega (arith, s .pre, weight k 64 (omega (arith, s .pre)), pow-mono {i = k} {j = 16} (omega (arith, s .pre))))
     (λ c. let s = c .before in rw (c .if1 .taken, weight (s .args .k) 64 (omega (arith, s .pre))))
     (λ c. rw (c .if1 .left) (omega arith)))

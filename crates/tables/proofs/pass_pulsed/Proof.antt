@@ -5,15 +5,15 @@ use native.Mathlib.Omega.{arith}
 use Rattle.rows.proofs.Range.{Ranging, range-start, range-turn, range-done}
 use Rattle.tables.specs.Time.{usagePassed, passed}
 use borrow.Author.Needs.{needs}
-use Rattle.rows.specs.Places.{clockRow, firstInput}
+use Rattle.rows.specs.Places.{firstOuter, firstInput}
 use Rattle.tables.proofs.pass_pulsed.Statement.{statement}
 use Rattle.tables.proofs.pass_pulsed.Tie as tie
 
 abbrev Inv-loop : tie.InvT-loop
-Inv-loop board₀ d time n₀ board n = Ranging firstInput (clockRow - firstInput) (λ _. usagePassed d) board₀ board n
+Inv-loop board₀ d time n₀ board n = Ranging firstInput (firstOuter - firstInput) (λ _. usagePassed d) board₀ board n
 
 abbrev μ-loop : tie.MeasureT-loop
-μ-loop board₀ d time n₀ board n = clockRow - n
+μ-loop board₀ d time n₀ board n = firstOuter - n
 
 pub pass-pulsed-spec : {M : Type 1} → statement M
 unfolding passed
