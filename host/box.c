@@ -53,7 +53,7 @@ void box_power_up(box *b, const wellacorn_settings *settings, FILE *trace)
 static unsigned closed_relays(const box *b)
 {
     unsigned closed = 0;
-    for (int k = 0; k < WELLACORN_CHANNELS; k++) {
+    for (int k = 0; k < WELLACORN_RELAYS; k++) {
         closed |= (unsigned)(b->lent.board.relays[k].closed != 0) << k;
     }
     return closed;
@@ -90,6 +90,53 @@ uint64_t box_next(const box *b)
 const wellacorn_pulse *box_pulse(const box *b, size_t first, size_t i)
 {
     return &b->lent.row[(first + i) % WELLACORN_PULSES];
+}
+
+unsigned box_first_relay(unsigned place)
+{
+    return WELLACORN_CHANNELS + BOX_MODULE * (place - 1) + 1;
+}
+
+unsigned box_place_of(unsigned relay)
+{
+    return (relay - WELLACORN_CHANNELS - 1) / BOX_MODULE + 1;
+}
+
+bool box_is_filled(const box *b, unsigned place)
+{
+    return place >= 1 && place <= WELLACORN_PLACES && b->lent.board.places[place - 1].filled != 0;
+}
+
+wellacorn_done box_fill(box *b, uint8_t place)
+{
+    if (b->trace != NULL) {
+        fprintf(b->trace, "fill %u\n", place);
+    }
+    return wellacorn_box_fill(&b->lent, place);
+}
+
+/* Of the pulses that stand, how many have relays of a module at this place in their masks. */
+static size_t pulses_with(const box *b, unsigned place)
+{
+    const wellacorn_queue *queue = &b->lent.board.queue;
+    const unsigned module = 0xFu << (box_first_relay(place) - 1);
+    size_t n = 0;
+    for (size_t i = 0; i < queue->standing; i++) {
+        n += (box_pulse(b, queue->first, i)->mask & module) != 0;
+    }
+    return n;
+}
+
+emptied box_empty(box *b, uint8_t place)
+{
+    bool was_filled = box_is_filled(b, place);
+    size_t pulses = was_filled ? pulses_with(b, place) : 0;
+    unsigned closed = closed_relays(b);
+    if (b->trace != NULL) {
+        fprintf(b->trace, "empty %u\n", place);
+    }
+    wellacorn_done done = wellacorn_box_empty(&b->lent, place);
+    return (emptied){.done = done, .was_filled = was_filled, .switched = closed ^ closed_relays(b), .pulses = pulses};
 }
 
 wellacorn_done box_level(box *b, uint8_t k, uint8_t v)
@@ -138,7 +185,8 @@ wellacorn_done box_collect(box *b, uint8_t c)
 
 bool box_due(const box *b, uint8_t c)
 {
-    return b->lent.board.lines[c].due != 0;
+    const wellacorn_line *line = &b->lent.board.lines[c];
+    return line->due != 0 || line->external != 0;
 }
 
 size_t box_content(const box *b, uint8_t c, const came *it, const uint8_t **content)

@@ -29,6 +29,14 @@ typedef struct {
     unsigned switched;                  /* the relays that are not as they were before, relay 1 the lowest bit */
 } passed;
 
+/* What an emptying came to. */
+typedef struct {
+    wellacorn_done done;
+    bool was_filled;                    /* false: nothing changed */
+    unsigned switched;                  /* the relays that opened with it, relay 1 the lowest bit */
+    size_t pulses;                      /* how many of the pulses that stand lost relays from their masks */
+} emptied;
+
 void box_power_up(box *b, const wellacorn_settings *settings, FILE *trace);
 
 /* Tells the box the time: `now` ms have passed since power-up, in all. Each ms is told once. */
@@ -40,13 +48,25 @@ uint64_t box_next(const box *b);
 /* The i-th pulse behind the place `first` of the row, the one at that place being the 0th. */
 const wellacorn_pulse *box_pulse(const box *b, size_t first, size_t i);
 
+/* The second deck. A module has so many relays; the first relay of a module at a place, and the place of a relay from 9 to 16. */
+enum { BOX_MODULE = 4 };
+
+unsigned box_first_relay(unsigned place);
+unsigned box_place_of(unsigned relay);
+
+/* Whether a module stands at a place; at no place but 1 and 2. */
+bool box_is_filled(const box *b, unsigned place);
+
+wellacorn_done box_fill(box *b, uint8_t place);
+emptied box_empty(box *b, uint8_t place);
+
 wellacorn_done box_level(box *b, uint8_t k, uint8_t v);
 wellacorn_done box_connect(box *b, uint8_t c, uint8_t rank, bool strict);
 wellacorn_done box_close(box *b, uint8_t c);
 wellacorn_done box_collect(box *b, uint8_t c);
 came box_bytes(box *b, uint8_t c, const uint8_t *piece, size_t n);
 
-/* Whether Monitor is due on connection c. */
+/* Whether a Monitor or an External Monitor message is due on connection c. */
 bool box_due(const box *b, uint8_t c);
 
 /* The content of the message that the last box_bytes on connection c ended, where it was served or its content refused: a whole frame, not

@@ -515,7 +515,7 @@ static void greet(const host *h)
     if (h->options.strict) {
         say("every connection is strict: a checksum of 0xFFFF does not pass unchecked");
     }
-    say("%s. Commands: level K V, state, quit", h->options.quiet ? "no simulated morning" : "a simulated morning: fish rise at random");
+    say("%s. Commands: level K V, filled P, emptied P, state, quit", h->options.quiet ? "no simulated morning" : "a simulated morning: fish rise at random");
 }
 
 /* Standard input and output are always something: no socket is to take their place. */

@@ -14,6 +14,8 @@
 
 enum { WORDS = 4 };     /* one more than a command has, to see that there are too many */
 
+static const char commands_known[] = "write `level K V`, `filled P`, `emptied P`, `state` or `quit`";
+
 static size_t split(char *text, char *words[WORDS])
 {
     size_t n = 0;
@@ -24,7 +26,7 @@ static size_t split(char *text, char *words[WORDS])
     return n;
 }
 
-/* A number of a byte; 255, which is no input and no level, where the word is none. */
+/* A number of a byte; 255, which is no input, no level and no place, where the word is none. */
 static uint8_t byte(const char *word)
 {
     size_t n = strlen(word);
@@ -47,6 +49,40 @@ static void level(box *b, const char *input, const char *value)
     }
 }
 
+static void refuse_place(const char *command, uint8_t answer)
+{
+    say("%s refused (%u): write `%s P` with P 1 (relays 9 to 12) or 2 (relays 13 to 16)", command, answer, command);
+}
+
+/* A module has been plugged in. */
+static void filled(box *b, const char *word)
+{
+    uint8_t place = byte(word);
+    bool was_filled = box_is_filled(b, place);
+    wellacorn_done done = box_fill(b, place);
+    if (done.answer != WELLACORN_SERVED) {
+        refuse_place("filled", done.answer);
+    } else if (was_filled) {
+        say("place %u was filled already: nothing changed", place);
+    } else {
+        say("place %u is filled: relays %u to %u are there, all open", place, box_first_relay(place), box_first_relay(place) + BOX_MODULE - 1);
+    }
+}
+
+/* A module has been pulled. */
+static void pulled(box *b, const char *word)
+{
+    uint8_t place = byte(word);
+    emptied it = box_empty(b, place);
+    if (it.done.answer != WELLACORN_SERVED) {
+        refuse_place("emptied", it.done.answer);
+    } else if (!it.was_filled) {
+        say("place %u was empty already: nothing changed", place);
+    } else {
+        told_emptied(b, place, &it);
+    }
+}
+
 static bool obey(char *text, box *b, const char *const peers[WELLACORN_CONNECTIONS])
 {
     char *words[WORDS];
@@ -61,8 +97,12 @@ static bool obey(char *text, box *b, const char *const peers[WELLACORN_CONNECTIO
         told_state(b, peers);
     } else if (n == 3 && strcmp(words[0], "level") == 0) {
         level(b, words[1], words[2]);
+    } else if (n == 2 && strcmp(words[0], "filled") == 0) {
+        filled(b, words[1]);
+    } else if (n == 2 && strcmp(words[0], "emptied") == 0) {
+        pulled(b, words[1]);
     } else {
-        say("no such command: write `level K V`, `state` or `quit`");
+        say("no such command: %s", commands_known);
     }
     return true;
 }
@@ -81,7 +121,7 @@ static bool take(commands *c, char ch, box *b, const char *const peers[WELLACORN
     c->n = 0;
     c->too_long = false;
     if (cut) {
-        say("a line that long is no command: write `level K V`, `state` or `quit`");
+        say("a line that long is no command: %s", commands_known);
         return true;
     }
     return obey(c->text, b, peers);

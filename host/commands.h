@@ -1,4 +1,4 @@
-/* The commands on standard input: `level K V`, `state`, `quit`. */
+/* The commands on standard input: `level K V`, `filled P`, `emptied P`, `state`, `quit`. */
 #ifndef COMMANDS_H
 #define COMMANDS_H
 

@@ -80,7 +80,7 @@ static void came_to(const char *call, wellacorn_done d, uint8_t answer, size_t t
 
 /* ---- What a call finds: a test sets in `expected` what matters to its call, then says `begin`, then what the call does. */
 
-/* No pulse stands. */
+/* No pulse stands. Both places hold a module, by words that no call stores. */
 static void scribble(void)
 {
     for (size_t i = 0; i < sizeof expected / 8; i++) {
@@ -95,9 +95,25 @@ static void begin(void)
     found = expected;
 }
 
+/* Modules stand at the places whose bits are set, lowest bit place 1, and nowhere else. */
+enum { NO_MODULE = 0, AT_PLACE_1 = 1, AT_PLACE_2 = 2, BOTH_MODULES = AT_PLACE_1 | AT_PLACE_2 };
+
+static void modules(unsigned filled)
+{
+    for (unsigned p = 0; p < WELLACORN_PLACES; p++) {
+        board->places[p].filled = filled >> p & 1 ? board->places[p].filled : 0;
+    }
+}
+
+/* Whether relay k is there. */
+static bool is_there(unsigned filled, unsigned k)
+{
+    return k <= 8 || (filled >> (k <= 12 ? 0 : 1) & 1);
+}
+
 static const wellacorn_half nothing_read;
 
-/* Connection c is open at rank 2 and not strict, its Monitor on and not due, at a message start. The others have ranks that nobody has. */
+/* Connection c is open at rank 2 and not strict, its Monitor on and nothing due, at a message start. The others have ranks that nobody has. */
 static wellacorn_line *listening(uint8_t c)
 {
     wellacorn_line *line = &board->lines[c];
@@ -106,12 +122,23 @@ static wellacorn_line *listening(uint8_t c)
     return line;
 }
 
-/* The same, but strict, by words that no call stores: a mark leaves them as they are. */
-static void watching(uint8_t c)
+/* The same, but strict, and by words that no call stores: a mark leaves them as they are. The marks that the call is to set are not set; one that it
+ * has to leave is not set on the odd connections and set on the even ones, so that it is seen to stay either way. */
+static void watching(uint8_t c, bool due, bool external)
 {
-    board->lines[c].rank = 2;
-    board->lines[c].due = 0;
+    wellacorn_line *line = &board->lines[c];
+    line->rank = 2;
+    line->due = due || c % 2 == 1 ? 0 : line->due;
+    line->external = external || c % 2 == 1 ? 0 : line->external;
     expected.box.halves[c] = nothing_read;
+}
+
+/* The call sets these marks of connection c, and no other word of it. */
+static void marked(uint8_t c, bool due, bool external)
+{
+    wellacorn_line *line = &board->lines[c];
+    line->due = due ? 1 : line->due;
+    line->external = external ? 1 : line->external;
 }
 
 static uint8_t *room_of(uint8_t c)
@@ -139,13 +166,18 @@ static void send(const char *call, uint8_t c, const uint8_t *content, size_t n)
 }
 
 /* The same with its checksum. */
-static void send_checked(const char *call, uint8_t c, const uint8_t *content, size_t n)
+static void send_checked_for(const char *call, uint8_t c, const uint8_t *content, size_t n, uint8_t answer)
 {
     uint8_t frame[16];
     frame_head(frame, content, n);
     memcpy(frame + 5, content, n);
     memcpy(room_of(c), content, n);
-    came_to(call, wellacorn_box_bytes(&found.box, c, frame, 5 + n, reply, sizeof reply), WELLACORN_SERVED, 5 + n, 0);
+    came_to(call, wellacorn_box_bytes(&found.box, c, frame, 5 + n, reply, sizeof reply), answer, 5 + n, 0);
+}
+
+static void send_checked(const char *call, uint8_t c, const uint8_t *content, size_t n)
+{
+    send_checked_for(call, c, content, n, WELLACORN_SERVED);
 }
 
 /* ---- The settings: each comes to its place, the board is 0 elsewhere, and nothing besides is written to */
@@ -173,7 +205,7 @@ static void try_power_up(int alarmed)
 /* ---- The board: each field where a call changes it. An input and a connection are stored with their row: flags as 0 and 1, unused words as 0.
  * Of a relay no unused word is stored, and with a mark no other word. */
 
-/* Input k alone is on, and relay k alone is closed. */
+/* Input k alone is on, and of relays 1 to 8 relay k alone is closed; relays 9 to 16 are closed, and have no usage. */
 static void try_pass(int k)
 {
     const uint32_t d = UINT32_MAX;
@@ -189,50 +221,80 @@ static void try_pass(int k)
     came_to("pass", wellacorn_box_pass(&found.box, d), WELLACORN_SERVED, 0, 0);
 }
 
-static void try_level(uint8_t k, uint8_t c)
+static void try_level(uint8_t k, uint8_t c, unsigned filled)
 {
     wellacorn_input *in = &board->inputs[k - 1];
     scribble();
-    watching(c);
+    modules(filled);
+    watching(c, true, filled != NO_MODULE);
     in->level = 0;
     in->count = UINT32_MAX - 1;
     begin();
     in->level = in->alarm = 1;
     in->count = UINT32_MAX;
     in->unused = 0;
-    board->lines[c].due = 1;
+    marked(c, true, filled != NO_MODULE);
     came_to("level", wellacorn_box_level(&found.box, k, 1), WELLACORN_SERVED, 0, 0);
 }
 
-static void try_close_relay(uint8_t k, uint8_t c)
+/* Relay k is commanded closed or open, which it was not. A relay of the second deck does not mark Monitor. */
+static void try_switch_relay(uint8_t k, uint8_t c, unsigned filled, bool closed)
 {
     wellacorn_relay *relay = &board->relays[k - 1];
     scribble();
-    watching(c);
-    relay->closed = 0;
+    modules(filled);
+    watching(c, k <= 8, filled != NO_MODULE);
+    relay->closed = closed ? 0 : relay->closed;
     begin();
-    relay->closed = 1;
-    board->lines[c].due = 1;
-    send_checked("a relay is closed", c, (const uint8_t[]){10, 1, 0, k}, 4);
+    relay->closed = closed;
+    marked(c, k <= 8, filled != NO_MODULE);
+    send_checked("a relay is switched", c, (const uint8_t[]){10, closed ? 1 : 2, 0, k}, 4);
+}
+
+/* Relay k, whose module is not there, is not switched and not pulsed. */
+static void try_absent_relay(uint8_t k, uint8_t c, unsigned filled)
+{
+    scribble();
+    modules(filled);
+    watching(c, true, true);
+    begin();
+    for (uint8_t action = 1; action <= 3; action++) {
+        send_checked_for("a relay is not there", c, (const uint8_t[]){10, action, 0, k}, 4, WELLACORN_OUT_OF_RANGE);
+    }
+    send_checked_for("a relay is not there to pulse", c, (const uint8_t[]){10, 6, 0, k, 0, 0, 0, 1}, 8, WELLACORN_OUT_OF_RANGE);
+}
+
+static void try_relays(uint8_t c, unsigned filled)
+{
+    for (uint8_t k = 1; k <= WELLACORN_RELAYS; k++) {
+        if (is_there(filled, k)) {
+            try_switch_relay(k, c, filled, true);
+            try_switch_relay(k, c, filled, false);
+        } else {
+            try_absent_relay(k, c, filled);
+        }
+    }
 }
 
 /* The byte that says strict stands in the board as it is. */
-static void try_connect(uint8_t c, uint8_t rank, uint8_t strict)
+static void try_connect(uint8_t c, uint8_t rank, uint8_t strict, unsigned filled)
 {
+    bool external = rank > 0 && filled != NO_MODULE;
     scribble();
+    modules(filled);
     board->lines[c].is_open = 0;
     begin();
-    board->lines[c] = (wellacorn_line){.is_open = 1, .rank = rank, .monitor = 1, .due = rank > 0, .strict = strict};
+    board->lines[c] = (wellacorn_line){.is_open = 1, .rank = rank, .monitor = 1, .due = rank > 0, .strict = strict, .external = external};
     expected.box.halves[c] = nothing_read;
     came_to("connect", wellacorn_box_connect(&found.box, c, rank, strict), WELLACORN_SERVED, 0, 0);
 }
 
-static void try_connects(uint8_t c)
+static void try_connects(uint8_t c, unsigned filled)
 {
     static const uint8_t says[] = {0, 1, 2, 128, 255};
     for (uint8_t rank = 0; rank <= 2; rank++) {
         for (size_t i = 0; i < COUNT(says); i++) {
-            try_connect(c, rank, says[i]);
+            try_connect(c, rank, says[i], filled);
         }
     }
 }
@@ -246,28 +308,96 @@ static void try_close(uint8_t c)
     came_to("close", wellacorn_box_close(&found.box, c), WELLACORN_SERVED, 0, 0);
 }
 
-/* Requests 4 and 5 turn Monitor off and on. */
+/* Requests 4 and 5 turn Monitor off, with what is due, and on. */
 static void try_monitor(uint8_t c)
 {
     scribble();
     wellacorn_line *line = listening(c);
+    line->due = line->external = 1;
     begin();
-    line->monitor = 0;
+    line->monitor = line->due = line->external = 0;
     send("Monitor off", c, (const uint8_t[]){5, 0, 4}, 3);
     line->monitor = 1;
     send("Monitor on", c, (const uint8_t[]){5, 0, 5}, 3);
+    line->monitor = 0;
+    line->due = line->external = 1;
+    begin();
+    line->monitor = 1;
+    send("Monitor on, due", c, (const uint8_t[]){5, 0, 5}, 3);
 }
 
-static void try_collect(uint8_t c)
+/* The frames of both Monitor messages, each with its header. */
+enum { MONITOR_FRAME = 102, EXTERNAL_FRAME = 16 };   /* of the latter without its outputs: a byte each */
+
+static size_t external_frame(unsigned filled)
 {
+    return EXTERNAL_FRAME + (filled == BOTH_MODULES ? 8 : 4);
+}
+
+/* The External Monitor message of a board on which every relay is closed, at a place of the reply. */
+static void same_external(const char *call, size_t at, unsigned filled)
+{
+    const size_t n = external_frame(filled) - EXTERNAL_FRAME;
+    const uint8_t head[] = {2, 0, (uint8_t)n};
+    same(call, "reply byte", at, reply[at], 0x01);
+    same(call, "reply byte", at + 2, reply[at + 2], 11 + n);
+    for (size_t i = 0; i < sizeof head; i++) {
+        same(call, "reply byte", at + 5 + i, reply[at + 5 + i], head[i]);
+    }
+    for (size_t i = 0; i < n; i++) {
+        same(call, "reply byte", at + 8 + i, reply[at + 8 + i], 1);
+    }
+    for (size_t i = 0; i < 8; i++) {
+        same(call, "reply byte", at + 8 + n + i, reply[at + 8 + n + i], board->clock.time >> (56 - 8 * i) & 0xFF);
+    }
+}
+
+static void try_collect(uint8_t c, unsigned filled, bool due, bool external)
+{
+    const size_t monitor = due ? MONITOR_FRAME : 0, len = monitor + (external ? external_frame(filled) : 0);
     scribble();
+    modules(filled);
     wellacorn_line *line = listening(c);
+    line->due = due;
+    line->external = external;
     begin();
-    came_to("nothing due", wellacorn_box_collect(&found.box, c, reply, sizeof reply), WELLACORN_WAITING, 0, 0);
-    line->due = 1;
+    line->due = line->external = 0;
+    came_to("collect", wellacorn_box_collect(&found.box, c, reply, sizeof reply), len > 0 ? WELLACORN_SERVED : WELLACORN_WAITING, 0, len);
+    same("collect", "reply byte", 5, due ? reply[5] : 1, 1);
+    if (external) {
+        same_external("collect", monitor, filled);
+    }
+}
+
+static void try_collects(uint8_t c)
+{
+    for (unsigned filled = NO_MODULE; filled <= BOTH_MODULES; filled++) {
+        for (unsigned due = 0; due <= 1; due++) {
+            for (unsigned external = 0; external <= (filled == NO_MODULE ? 0 : 1); external++) {
+                try_collect(c, filled, due, external);
+            }
+        }
+    }
+}
+
+/* Request 1 is answered with both messages where there is a module, and leaves both marks as they are. */
+static void try_request(uint8_t c, unsigned filled)
+{
+    const uint8_t frame[] = {0x01, 0, 3, 0xFF, 0xFF, 5, 0, 1};
+    const size_t len = MONITOR_FRAME + (filled == NO_MODULE ? 0 : external_frame(filled));
+    scribble();
+    modules(filled);
+    const wellacorn_line words = board->lines[c];
+    wellacorn_line *line = listening(c);
+    line->due = words.due;
+    line->external = words.external;
     begin();
-    line->due = 0;
-    came_to("collect", wellacorn_box_collect(&found.box, c, reply, sizeof reply), WELLACORN_SERVED, 0, 102);
+    memcpy(room_of(c), frame + 5, 3);
+    came_to("request 1", wellacorn_box_bytes(&found.box, c, frame, sizeof frame, reply, sizeof reply), WELLACORN_SERVED, sizeof frame, len);
+    same("request 1", "reply byte", 5, reply[5], 1);
+    if (filled != NO_MODULE) {
+        same_external("request 1", MONITOR_FRAME, filled);
+    }
 }
 
 /* Only the word `strict` differs between a connection on which 0xFFFF passes and one on which it does not. Whatever else writes its row leaves
@@ -284,40 +414,55 @@ static void try_strict(uint8_t c)
     send_checked("strict, Monitor off", c, (const uint8_t[]){5, 0, 4}, 3);
     line->monitor = 1;
     send_checked("strict, Monitor on", c, (const uint8_t[]){5, 0, 5}, 3);
-    line->due = board->inputs[0].level = board->inputs[0].count = 1;
+    line->due = line->external = board->inputs[0].level = board->inputs[0].count = 1;
     came_to("strict, level", wellacorn_box_level(&found.box, 1, 1), WELLACORN_SERVED, 0, 0);
-    line->due = 0;
-    came_to("strict, collect", wellacorn_box_collect(&found.box, c, reply, sizeof reply), WELLACORN_SERVED, 0, 102);
+    line->due = line->external = 0;
+    came_to("strict, collect", wellacorn_box_collect(&found.box, c, reply, sizeof reply), WELLACORN_SERVED, 0,
+            MONITOR_FRAME + external_frame(BOTH_MODULES));
     send_for("strict still, 0xFFFF", c, (const uint8_t[]){5, 0, 5}, 3, WELLACORN_BAD_CHECKSUM);
 }
 
 /* ---- Pulses: the queue's row of the board, and the records of the row that is lent */
 
-enum { BEFORE = 0xA6, LEFT = 0x07654321 };
+enum { BEFORE = 0xC2A6, LEFT = 0x07654321 };
+
+/* Relay k as a bit; the relay behind relay 16 is relay 1. */
+static uint16_t bit_of(unsigned k)
+{
+    return (uint16_t)(1u << (k - 1) % WELLACORN_RELAYS);
+}
 
 /* The relays are as the bits say, and so many pulses stand from the place `first` on: records of numbers of their own, the i-th of those that
- * stand of relay i % 8 + 1 alone. The running one began with the relays BEFORE, and has LEFT ms left. */
-static void queue_up(uint8_t relays, unsigned first, unsigned standing)
+ * stand of relay k + i alone, the 0th running. It began with the relays BEFORE, and has LEFT ms left. */
+static void queue_up_of(unsigned k, uint16_t relays, unsigned first, unsigned standing)
 {
-    for (unsigned k = 0; k < WELLACORN_CHANNELS; k++) {
-        board->inputs[k].level = 0;
-        board->relays[k] = (wellacorn_relay){.closed = relays >> k & 1, .usage = number(k), .usage_setpoint = number(k + 8)};
+    for (unsigned i = 0; i < WELLACORN_CHANNELS; i++) {
+        board->inputs[i].level = 0;
+    }
+    for (unsigned i = 0; i < WELLACORN_RELAYS; i++) {
+        board->relays[i] = (wellacorn_relay){.closed = relays >> i & 1, .usage = number(i), .usage_setpoint = number(i + WELLACORN_RELAYS)};
     }
     for (unsigned i = 0; i < standing; i++) {
-        uint16_t mask = (uint16_t)(1u << i % 8);
+        uint16_t mask = bit_of(k + i);
         expected.box.row[(first + i) % WELLACORN_PULSES] = (wellacorn_pulse){mask, mask, 0x01020304 + i};
     }
     board->queue = (wellacorn_queue){
         .first = first, .standing = standing, .left = LEFT, .remembered = BEFORE, .mask = 0x12, .states = 0x02, .duration = 0x09080706};
 }
 
-/* A request that comes behind others is written behind them, and does nothing else. */
+static void queue_up(uint16_t relays, unsigned first, unsigned standing)
+{
+    queue_up_of(1, relays, first, standing);
+}
+
+/* A request that comes behind others is written behind them, and does nothing else: one of a block, and one of a relay. */
 static void try_pulse_waits(unsigned first, unsigned standing)
 {
+    const uint8_t k = (uint8_t)(1 + (first + standing) % WELLACORN_RELAYS);
     wellacorn_queue *q = &board->queue;
     scribble();
     listening(0);
-    queue_up(0x5A, first, standing);
+    queue_up(0x5A5A, first, standing);
     begin();
     expected.box.row[(first + standing) % WELLACORN_PULSES] = (wellacorn_pulse){0xC3, 0x41, 0xFEDCBA98};
     q->standing++;
@@ -325,13 +470,19 @@ static void try_pulse_waits(unsigned first, unsigned standing)
     q->states = 0x41;
     q->duration = 0xFEDCBA98;
     send("a pulse waits", 0, (const uint8_t[]){10, 7, 0xC3, 0x41, 0xFE, 0xDC, 0xBA, 0x98}, 8);
+    if (standing + 1 < WELLACORN_PULSES) {
+        expected.box.row[(first + standing + 1) % WELLACORN_PULSES] = (wellacorn_pulse){bit_of(k), bit_of(k), 0x00FF0001};
+        q->standing++;
+        q->mask = q->states = bit_of(k);
+        q->duration = 0x00FF0001;
+        send("a pulse of a relay waits", 0, (const uint8_t[]){10, 6, 0, k, 0x00, 0xFF, 0x00, 0x01}, 8);
+    }
 }
 
 /* One that finds none begins: of relay k, which closes. */
 static void try_pulse_begins(uint8_t k, uint8_t c, unsigned first)
 {
-    const uint8_t closed = (uint8_t)(0x5A & ~(1u << (k - 1)));
-    const uint16_t bit = (uint16_t)(1u << (k - 1));
+    const uint16_t bit = bit_of(k), closed = (uint16_t)(0x5A5A & ~bit);
     scribble();
     listening(c);
     queue_up(closed, first, 0);
@@ -341,7 +492,7 @@ static void try_pulse_begins(uint8_t k, uint8_t c, unsigned first)
     board->queue = (wellacorn_queue){
         .first = first, .standing = 1, .left = 0x10203040, .remembered = closed, .mask = bit, .states = bit, .duration = 0x10203040};
     board->relays[k - 1].closed = 1;
-    board->lines[c].due = 1;
+    marked(c, k <= 8, true);
     send("a pulse begins", c, (const uint8_t[]){10, 6, 0, k, 0x10, 0x20, 0x30, 0x40}, 8);
 }
 
@@ -350,13 +501,13 @@ static void try_queue_full(unsigned first)
 {
     scribble();
     listening(0);
-    queue_up(0x5A, first, WELLACORN_PULSES);
+    queue_up(0x5A5A, first, WELLACORN_PULSES);
     begin();
     send_for("the queue is full", 0, (const uint8_t[]){10, 6, 0, 1, 0, 0, 0, 1}, 8, WELLACORN_QUEUE_FULL);
     send_at("the queue is full, cut", 0, (const uint8_t[]){10, 6, 0, 1, 0, 0, 0}, 7, WELLACORN_ENDS_EARLY, 7);
 }
 
-/* d ms for the clock and for the relays that are closed. */
+/* d ms for the clock and for those of relays 1 to 8 that are closed. */
 static void passes(uint32_t d)
 {
     board->clock.time += d;
@@ -368,46 +519,49 @@ static void passes(uint32_t d)
 static void try_pulse_runs(unsigned first)
 {
     scribble();
-    queue_up(0x5A, first, 2);
+    queue_up(0x5A5A, first, 2);
     begin();
     passes(LEFT - 1);
     board->queue.left = 1;
     came_to("a pulse runs", wellacorn_box_pass(&found.box, LEFT - 1), WELLACORN_SERVED, 0, 0);
 }
 
-/* Relay 1, which the pulse has closed, returns to what it was, which is open; none waits. */
-static void try_pulse_ends(uint8_t c, unsigned first)
+/* Relay k, which the pulse has closed, returns to what it was, which is open; none waits. */
+static void try_pulse_ends(unsigned k, uint8_t c, unsigned first)
 {
     wellacorn_queue *q = &board->queue;
     scribble();
     listening(c);
-    queue_up(0x5B, first, 1);
+    queue_up_of(k, (uint16_t)(0x5A5A | bit_of(k)), first, 1);
+    q->remembered = BEFORE & ~bit_of(k);
     begin();
     passes(LEFT);
-    board->relays[0].closed = 0;
-    board->lines[c].due = 1;
+    board->relays[k - 1].closed = 0;
+    marked(c, k <= 8, true);
     q->first = (first + 1) % WELLACORN_PULSES;
     q->standing = q->left = q->remembered = 0;
     passes(7);
     came_to("a pulse ends", wellacorn_box_pass(&found.box, LEFT + 7), WELLACORN_SERVED, 0, 0);
 }
 
-/* The same, and relay 2 closes for the one that waits. */
-static void try_pulse_follows(uint8_t c, unsigned first)
+/* The same, and relay k + 1, behind 16 relay 1, closes for the one that waits: each of the two marks what it changes. */
+static void try_pulse_follows(unsigned k, uint8_t c, unsigned first)
 {
+    const uint16_t others = (uint16_t)(0x5A5A & ~(bit_of(k) | bit_of(k + 1)));
     wellacorn_queue *q = &board->queue;
     scribble();
     listening(c);
-    queue_up(0x59, first, 2);
+    queue_up_of(k, others | bit_of(k), first, 2);
+    q->remembered = BEFORE & ~bit_of(k);
     begin();
     passes(LEFT);
-    board->relays[0].closed = 0;
-    board->relays[1].closed = 1;
-    board->lines[c].due = 1;
+    board->relays[k - 1].closed = 0;
+    board->relays[k % WELLACORN_RELAYS].closed = 1;
+    marked(c, k <= 8 || k == WELLACORN_RELAYS, true);
     q->first = (first + 1) % WELLACORN_PULSES;
     q->standing = 1;
     q->left = 0x01020305;
-    q->remembered = 0x58;
+    q->remembered = others;
     came_to("a pulse follows", wellacorn_box_pass(&found.box, LEFT), WELLACORN_SERVED, 0, 0);
 }
 
@@ -418,13 +572,13 @@ static void try_pulses(unsigned first)
     for (unsigned standing = 1; standing < WELLACORN_PULSES; standing++) {
         try_pulse_waits(first, standing);
     }
-    for (uint8_t k = 1; k <= WELLACORN_CHANNELS; k++) {
+    for (uint8_t k = 1; k <= WELLACORN_RELAYS; k++) {
         try_pulse_begins(k, c, first);
+        try_pulse_ends(k, c, first);
+        try_pulse_follows(k, c, first);
     }
     try_queue_full(first);
     try_pulse_runs(first);
-    try_pulse_ends(c, first);
-    try_pulse_follows(c, first);
 }
 
 /* A longer row than is needed: no record from the 32nd on is read or written to. At the place 31 of such a row stands what is behind the box. */
@@ -436,7 +590,7 @@ static void try_longer_row(void)
     wellacorn_queue *q = &board->queue;
     scribble();
     listening(0);
-    queue_up(0x5A, LAST, 1);
+    queue_up(0x5A5A, LAST, 1);
     begin();
     memcpy(room_of(0), frame + 5, 8);
     expected.box.row[0] = (wellacorn_pulse){0x03, 0x02, 5};
@@ -451,8 +605,147 @@ static void try_longer_row(void)
     q->first = 0;
     q->standing = 1;
     q->left = 5;
-    q->remembered = 0x5A;
+    q->remembered = 0x5A5A;
     came_to("a longer row, pass", wellacorn_pass(&box->board, box->row, LONGER, LEFT), WELLACORN_SERVED, 0, 0);
+}
+
+/* ---- The second deck: its places, their relays, the marks, and the pulses that stand in the row */
+
+/* The first relay of a module at a place. */
+static unsigned first_relay(unsigned place)
+{
+    return place == 1 ? 9 : 13;
+}
+
+/* A module is plugged in where there is none: its relays are open, whatever words they had. The row is not looked into, and nothing becomes due. Where
+ * there is one already nothing changes. */
+static void try_fill(uint8_t place, unsigned filled, uint8_t c)
+{
+    scribble();
+    modules(filled);
+    watching(c, false, false);
+    board->queue.standing = WELLACORN_PULSES;
+    begin();
+    if ((filled >> (place - 1) & 1) == 0) {
+        board->places[place - 1].filled = 1;
+        for (unsigned k = first_relay(place); k < first_relay(place) + 4; k++) {
+            board->relays[k - 1].closed = 0;
+        }
+    }
+    came_to("fill", wellacorn_box_fill(&found.box, place), WELLACORN_SERVED, 0, 0);
+}
+
+/* What an emptying makes of the pulses that stand: words of their own, of which the masks alone lose the module's relays. */
+static void masks_lose(unsigned place, unsigned first, unsigned standing)
+{
+    const unsigned module = 0xFu << (first_relay(place) - 1);
+    for (unsigned i = 0; i < standing; i++) {
+        expected.box.row[(first + i) % WELLACORN_PULSES].mask &= (uint16_t)~module;
+    }
+}
+
+/* The module at a place is pulled, of whose relays those were closed whose bits are set, lowest bit its first. Where the other module stays, connection
+ * c is told of what opened; where none does, nothing of it is due to anybody. */
+static void try_empty(uint8_t place, unsigned filled, unsigned closed, uint8_t c, unsigned first, unsigned standing)
+{
+    const bool stays = filled == BOTH_MODULES;
+    scribble();
+    modules(filled);
+    watching(c, false, stays && closed != 0);
+    board->queue.first = first;
+    board->queue.standing = standing;
+    for (unsigned i = 0; i < 4; i++) {
+        wellacorn_relay *relay = &board->relays[first_relay(place) - 1 + i];
+        relay->closed = closed >> i & 1 ? relay->closed : 0;
+    }
+    begin();
+    board->places[place - 1].filled = 0;
+    for (unsigned i = 0; i < 4; i++) {
+        board->relays[first_relay(place) - 1 + i].closed = 0;
+    }
+    masks_lose(place, first, standing);
+    marked(c, false, stays && closed != 0);
+    for (int line = 0; line < WELLACORN_CONNECTIONS && !stays; line++) {
+        board->lines[line].external = 0;
+    }
+    came_to("empty", wellacorn_box_empty(&found.box, place), WELLACORN_SERVED, 0, 0);
+}
+
+/* A place that is empty already: nothing changes, not even of pulses that name its relays. */
+static void try_empty_again(uint8_t place, unsigned filled, uint8_t c)
+{
+    scribble();
+    modules(filled);
+    watching(c, false, false);
+    board->queue.standing = WELLACORN_PULSES;
+    begin();
+    came_to("empty again", wellacorn_box_empty(&found.box, place), WELLACORN_SERVED, 0, 0);
+}
+
+static void try_place(uint8_t place, uint8_t c)
+{
+    for (unsigned filled = NO_MODULE; filled <= BOTH_MODULES; filled++) {
+        try_fill(place, filled, c);
+        if ((filled >> (place - 1) & 1) == 0) {
+            try_empty_again(place, filled, c);
+            continue;
+        }
+        for (unsigned closed = 0x0; closed <= 0xF; closed++) {
+            try_empty(place, filled, closed, c, 0, 0);
+        }
+        for (unsigned first = 0; first < WELLACORN_PULSES; first++) {
+            for (unsigned standing = 1; standing <= WELLACORN_PULSES; standing += 5) {
+                try_empty(place, filled, standing % 16, c, first, standing);
+            }
+        }
+    }
+}
+
+/* No other place is there, and with a row that is too short not even that is looked at: nothing changes. */
+static void try_no_place(uint8_t place, uint8_t c)
+{
+    wellacorn_box *box = &found.box;
+    scribble();
+    watching(c, false, false);
+    board->queue.standing = WELLACORN_PULSES;
+    begin();
+    came_to("fill, no place", wellacorn_box_fill(box, place), WELLACORN_OUT_OF_RANGE, 0, 0);
+    came_to("empty, no place", wellacorn_box_empty(box, place), WELLACORN_OUT_OF_RANGE, 0, 0);
+    came_to("fill, short row", wellacorn_fill(&box->board, box->row, WELLACORN_PULSES - 1, place), WELLACORN_SHORT_BUFFER, 0, 0);
+    came_to("empty, short row", wellacorn_empty(&box->board, box->row, 0, place), WELLACORN_SHORT_BUFFER, 0, 0);
+}
+
+static void try_places(uint8_t c)
+{
+    static const uint8_t none[] = {0, 3, 4, 128, 255};
+    for (uint8_t place = 1; place <= WELLACORN_PLACES; place++) {
+        try_place(place, c);
+    }
+    for (size_t i = 0; i < COUNT(none); i++) {
+        try_no_place(none[i], c);
+    }
+}
+
+/* A longer row than is needed: the pulses that stand are among the first 31 records, wherever they begin. */
+static void try_longer_row_emptied(void)
+{
+    enum { LONGER = WELLACORN_PULSES + 8, FIRST = 29, STANDING = 7 };
+    wellacorn_box *box = &found.box;
+    scribble();
+    modules(AT_PLACE_2);
+    board->queue.first = FIRST;
+    board->queue.standing = STANDING;
+    begin();
+    came_to("a longer row, fill", wellacorn_fill(&box->board, box->row, LONGER, 2), WELLACORN_SERVED, 0, 0);
+    board->places[1].filled = 0;
+    for (int k = 12; k < WELLACORN_RELAYS; k++) {
+        board->relays[k].closed = 0;
+    }
+    for (int c = 0; c < WELLACORN_CONNECTIONS; c++) {
+        board->lines[c].external = 0;
+    }
+    masks_lose(2, FIRST, STANDING);
+    came_to("a longer row, empty", wellacorn_empty(&box->board, box->row, LONGER, 2), WELLACORN_SERVED, 0, 0);
 }
 
 /* ---- Half-read messages and their rooms */
@@ -542,13 +835,20 @@ static const refusal refusals[] = {
     {10, {7}, WELLACORN_LEFT_OVER, 9},
     {1, {10}, WELLACORN_ENDS_EARLY, 1},
     {3, {10, 1}, WELLACORN_ENDS_EARLY, 3},
-    {5, {10, 1, 0, 9}, WELLACORN_LEFT_OVER, 4},
+    {5, {10, 1, 0, 17}, WELLACORN_LEFT_OVER, 4},
     {3, {10, 4}, WELLACORN_OUT_OF_RANGE, 0},
     {5, {10, 11}, WELLACORN_OUT_OF_RANGE, 0},
-    {4, {10, 1, 0, 9}, WELLACORN_OUT_OF_RANGE, 0},
+    {4, {10, 1, 0, 0}, WELLACORN_OUT_OF_RANGE, 0},
+    {4, {10, 1, 0, 17}, WELLACORN_OUT_OF_RANGE, 0},
+    {4, {10, 2, 1, 9}, WELLACORN_OUT_OF_RANGE, 0},
+    {4, {10, 5, 0, 9}, WELLACORN_OUT_OF_RANGE, 0},
+    {4, {10, 8, 0, 16}, WELLACORN_OUT_OF_RANGE, 0},
+    {4, {10, 9, 0, 9}, WELLACORN_OUT_OF_RANGE, 0},
     {3, {10, 10, 0xFF}, WELLACORN_ENDS_EARLY, 3},
     {4, {10, 6, 0, 1}, WELLACORN_ENDS_EARLY, 4},
-    {7, {10, 6, 0, 9}, WELLACORN_ENDS_EARLY, 7},
+    {7, {10, 6, 0, 17}, WELLACORN_ENDS_EARLY, 7},
+    {8, {10, 6, 0, 17, 0, 0, 0, 1}, WELLACORN_OUT_OF_RANGE, 0},
+    {8, {10, 6, 0, 16}, WELLACORN_OUT_OF_RANGE, 0},
     {9, {10, 6, 0, 1, 0, 0, 0, 1}, WELLACORN_LEFT_OVER, 8},
     {7, {10, 7, 1, 1, 0, 0, 1}, WELLACORN_ENDS_EARLY, 7},
     {9, {10, 7, 1, 1}, WELLACORN_LEFT_OVER, 8},
@@ -574,6 +874,7 @@ static const refusal refusals[] = {
     {2, {26, 9}, WELLACORN_OUT_OF_RANGE, 0},
     {0, {0}, WELLACORN_NOT_OFFERED, 0},
     {9, {1}, WELLACORN_NOT_OFFERED, 0},
+    {15, {2, 0, 4}, WELLACORN_NOT_OFFERED, 0},
 };
 
 static void try_refusal(uint8_t c, const refusal *r)
@@ -675,10 +976,12 @@ static void try_short_row(unsigned standing)
     wellacorn_box *box = &found.box;
     scribble();
     listening(0);
-    queue_up(0x5A, 3, standing);
+    queue_up(0x5A5A, 3, standing);
     begin();
     for (size_t records = 0; records < WELLACORN_PULSES; records += WELLACORN_PULSES - 1) {
         came_to("pass, short row", wellacorn_pass(&box->board, box->row, records, UINT32_MAX), WELLACORN_SHORT_BUFFER, 0, 0);
+        came_to("fill, short row", wellacorn_fill(&box->board, box->row, records, 1), WELLACORN_SHORT_BUFFER, 0, 0);
+        came_to("empty, short row", wellacorn_empty(&box->board, box->row, records, 1), WELLACORN_SHORT_BUFFER, 0, 0);
         came_to("bytes, short row",
                 wellacorn_bytes(&box->board, box->halves, box->rooms, box->row, records, 0, frame, sizeof frame, reply, sizeof reply),
                 WELLACORN_SHORT_BUFFER, 0, 0);
@@ -696,15 +999,19 @@ int main(void)
         try_pass(k);
     }
     for (uint8_t c = 0; c < WELLACORN_CONNECTIONS; c++) {
-        for (uint8_t k = 1; k <= WELLACORN_CHANNELS; k++) {
-            try_level(k, c);
-            try_close_relay(k, c);
+        for (unsigned filled = NO_MODULE; filled <= BOTH_MODULES; filled++) {
+            for (uint8_t k = 1; k <= WELLACORN_CHANNELS; k++) {
+                try_level(k, c, filled);
+            }
+            try_relays(c, filled);
+            try_connects(c, filled);
+            try_request(c, filled);
         }
-        try_connects(c);
         try_close(c);
         try_monitor(c);
-        try_collect(c);
+        try_collects(c);
         try_strict(c);
+        try_places(c);
         try_half(c);
         try_room(c);
         try_done(c);
@@ -715,6 +1022,7 @@ int main(void)
         try_pulses(first);
     }
     try_longer_row();
+    try_longer_row_emptied();
     try_unchanged();
     try_short_row(0);
     try_short_row(1);

@@ -32,7 +32,8 @@ static const char help[] =
     "    --seed N                the same morning again\n"
     "    --trace FILE            writes each call of the box to FILE, as lines of docs/REPLAY.md. Not with --users\n"
     "\n"
-    "Commands on standard input: `level K V` (input K, 1 to 8, on 1 or off 0), `state`, `quit`.\n";
+    "Commands on standard input: `level K V` (input K, 1 to 8, on 1 or off 0), `filled P` and `emptied P` (a relay module was plugged in at\n"
+    "place P of the second deck, or pulled: 1 has relays 9 to 12, 2 relays 13 to 16), `state`, `quit`.\n";
 
 static void complain(const char *what, const char *which, const char *advice)
 {

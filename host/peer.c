@@ -840,10 +840,10 @@ uint8_t peer_fill(peer_box *box, const peer_pulse *row, size_t records, uint8_t 
     return answer;
 }
 
-/* 02, M-102, 4 and 8: what opens with a module is a change while there is another; without one nothing is due of them any more. */
+/* 02, M-102, 4 and 8: what opens with a module is a change, told by the other; without another nothing is due of them any more. */
 static void mark_emptied(peer_box *box, unsigned changed)
 {
-    if (changed && has_module(&box->tables)) {
+    if (changed) {
         mark_due(box, changed);
     }
     for (int c = 0; c < WELLACORN_CONNECTIONS; c++) {

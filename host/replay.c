@@ -502,8 +502,8 @@ static bool obey(word line)
         const char *name;
         bool (*obey)(const word *words, size_t n);
     } lines[] = {
-        {"bytes", bytes}, {"collect", collect},   {"level", level},      {"pass", pass},   {"fill", fill},
-        {"empty", empty}, {"state", state}, {"open", connect_line}, {"close", close_line}, {"power", power},
+        {"bytes", bytes}, {"collect", collect}, {"level", level},       {"pass", pass},        {"fill", fill},
+        {"empty", empty}, {"state", state},     {"open", connect_line}, {"close", close_line}, {"power", power},
     };
 
     word words[WORDS];

@@ -1,4 +1,4 @@
-/* What each message did, and which pulses began and ended, in words. */
+/* What each message did, which pulses began and ended, and what went with a module, in words. */
 #define _POSIX_C_SOURCE 200809L
 
 #include "told.h"
@@ -61,16 +61,24 @@ static void add_clock(words *w, uint64_t ms)
     }
 }
 
-/* A pulse: which relays, and how long. */
+enum { FIRST_DECK = 0xFF };     /* relays 1 to 8 as bits */
+
+/* A pulse: which relays, and how long. One of a relay of the second deck whose module was pulled since then has only its states left to tell that it
+ * was one. */
 static void add_pulse(words *w, const wellacorn_pulse *pulse)
 {
-    for (unsigned k = 0; k < WELLACORN_CHANNELS; k++) {
+    for (unsigned k = 0; k < WELLACORN_RELAYS; k++) {
         if (pulse->mask == 1u << k && (pulse->states & pulse->mask) != 0) {
             add(w, "relay %u, %" PRIu32 " ms", k + 1, pulse->duration);
             return;
         }
     }
-    add(w, "a block of relays, mask %02X state %02X, %" PRIu32 " ms", pulse->mask, pulse->states, pulse->duration);
+    if (pulse->mask == 0 && pulse->states > FIRST_DECK) {
+        add(w, "no relay any more, %" PRIu32 " ms", pulse->duration);
+        return;
+    }
+    int digits = pulse->mask > FIRST_DECK ? 4 : 2;
+    add(w, "a block of relays, mask %0*X state %0*X, %" PRIu32 " ms", digits, pulse->mask, digits, pulse->states, pulse->duration);
 }
 
 /* ---- Messages that were served. Their layout is right: the box has judged it. */
@@ -160,7 +168,7 @@ static void add_served(words *w, const box *b, const uint8_t *content)
 /* Which relays really changed. */
 static void add_switched(words *w, const box *b, unsigned switched)
 {
-    for (int k = 0; k < WELLACORN_CHANNELS; k++) {
+    for (int k = 0; k < WELLACORN_RELAYS; k++) {
         if (switched >> k & 1) {
             add(w, "; relay %d is %s now", k + 1, b->lent.board.relays[k].closed ? "closed" : "open");
         }
@@ -211,7 +219,26 @@ static void add_length(words *w, const uint8_t *content, const wellacorn_done *d
     add(w, " (its type is byte 0). It should have %s", layout_words(content[0]));
 }
 
-static void add_refused(words *w, const uint8_t *content, size_t n, const wellacorn_done *done, bool strict)
+/* The relay of the second deck that a command is to switch or pulse; 0 for any other message. */
+static unsigned relay_asked(const uint8_t *content, size_t n)
+{
+    unsigned action = n >= 4 && content[0] == 10 ? content[1] : 0;
+    unsigned channel = (action >= 1 && action <= 3) || action == 6 ? two_at(content + 2) : 0;
+    return channel > WELLACORN_CHANNELS && channel <= WELLACORN_RELAYS ? channel : 0;
+}
+
+/* A number that stands for nothing, or for a relay whose module is not there. */
+static void add_range(words *w, const box *b, const uint8_t *content, size_t n)
+{
+    unsigned relay = relay_asked(content, n);
+    if (relay != 0 && !box_is_filled(b, box_place_of(relay))) {
+        add(w, "relay %u: no module at place %u. Plug one in there first", relay, box_place_of(relay));
+    } else {
+        add(w, "an action, request, channel, duration or flag is out of range");
+    }
+}
+
+static void add_refused(words *w, const box *b, const uint8_t *content, size_t n, const wellacorn_done *done, bool strict)
 {
     if (n == 0) {
         add(w, "sent an empty message; refused (%u): ", done->answer);
@@ -237,7 +264,7 @@ static void add_refused(words *w, const uint8_t *content, size_t n, const wellac
         add(w, "%d pulses stand in the queue. Ask again when one has ended", WELLACORN_PULSES);
         break;
     default:
-        add(w, "an action, request, channel, duration or flag is out of range");
+        add_range(w, b, content, n);
     }
 }
 
@@ -254,7 +281,7 @@ static void told_message(const box *b, uint8_t c, const came *it)
     } else if (it->done.answer == WELLACORN_TOO_LONG) {
         add(&w, "sent a message of %zu bytes, swallowed (%d): the longest is 1,024", it->read - 5, WELLACORN_TOO_LONG);
     } else {
-        add_refused(&w, content, n, &it->done, b->lent.board.lines[c].strict != 0);
+        add_refused(&w, b, content, n, &it->done, b->lent.board.lines[c].strict != 0);
     }
     say("connection %u %s", c, w.text);
 }
@@ -292,6 +319,17 @@ void told_time(const box *b, const passed *it)
             told_pulse(b, it, i + 1, "begun", last);
         }
     }
+}
+
+void told_emptied(const box *b, uint8_t place, const emptied *it)
+{
+    words w = {.n = 0};
+    add(&w, "place %u is empty: relays %u to %u are gone", place, box_first_relay(place), box_first_relay(place) + BOX_MODULE - 1);
+    add_switched(&w, b, it->switched);
+    if (it->pulses > 0) {
+        add(&w, "; %zu %s", it->pulses, it->pulses == 1 ? "pulse has lost them from its mask" : "pulses have lost them from their masks");
+    }
+    say("%s", w.text);
 }
 
 void told_rest(heard *h, uint8_t c)
@@ -353,6 +391,29 @@ static void told_queue(const box *b)
     }
 }
 
+static void told_relays(const wellacorn_board *board)
+{
+    for (int k = 0; k < WELLACORN_CHANNELS; k++) {
+        const wellacorn_relay *r = &board->relays[k];
+        say("state: relay %d %s, usage %" PRIu64 " ms%s", k + 1, r->closed ? "closed" : "open", r->usage,
+            alarm_word(r->usage_setpoint > 0 && r->usage >= r->usage_setpoint, ", usage alarm"));
+    }
+}
+
+/* A place of the second deck, and the relays that are there with its module: they have no usage. */
+static void told_place(const box *b, unsigned place)
+{
+    const unsigned first = box_first_relay(place);
+    if (!box_is_filled(b, place)) {
+        say("state: place %u is empty", place);
+        return;
+    }
+    say("state: place %u is filled, relays %u to %u", place, first, first + BOX_MODULE - 1);
+    for (unsigned k = first; k < first + BOX_MODULE; k++) {
+        say("state: relay %u %s", k, b->lent.board.relays[k - 1].closed ? "closed" : "open");
+    }
+}
+
 void told_state(const box *b, const char *const peers[WELLACORN_CONNECTIONS])
 {
     const wellacorn_board *board = &b->lent.board;
@@ -362,10 +423,9 @@ void told_state(const box *b, const char *const peers[WELLACORN_CONNECTIONS])
     for (int k = 0; k < WELLACORN_CHANNELS; k++) {
         told_input(k + 1, &board->inputs[k]);
     }
-    for (int k = 0; k < WELLACORN_CHANNELS; k++) {
-        const wellacorn_relay *r = &board->relays[k];
-        say("state: relay %d %s, usage %" PRIu64 " ms%s", k + 1, r->closed ? "closed" : "open", r->usage,
-            alarm_word(r->usage_setpoint > 0 && r->usage >= r->usage_setpoint, ", usage alarm"));
+    told_relays(board);
+    for (unsigned place = 1; place <= WELLACORN_PLACES; place++) {
+        told_place(b, place);
     }
     told_queue(b);
     for (int c = 0; c < WELLACORN_CONNECTIONS; c++) {

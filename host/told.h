@@ -1,4 +1,5 @@
-/* What each message did, and which pulses began and ended, in words. Stray bytes and keep-alives that come one behind the other make one line. */
+/* What each message did, which pulses began and ended, and what went with a module, in words. Stray bytes and keep-alives that come one behind the
+ * other make one line. */
 #ifndef TOLD_H
 #define TOLD_H
 
@@ -15,6 +16,9 @@ void told_bytes(heard *h, const box *b, uint8_t c, const came *it);
 
 /* A telling of the time has come to it: says which pulses ended and which began. */
 void told_time(const box *b, const passed *it);
+
+/* An emptying of a place has come to it: says which relays opened, and how many pulses lost relays. */
+void told_emptied(const box *b, uint8_t place, const emptied *it);
 
 /* Tells what is left to tell. */
 void told_rest(heard *h, uint8_t c);

@@ -25,8 +25,11 @@ import time
 HERE = os.path.dirname(os.path.abspath(__file__))
 
 CHANNELS = range(1, 9)
+DECK = range(9, 17)                                             # relays of the second deck: a module at place 1 has 9 to 12, at place 2 13 to 16
+RELAYS = range(1, 17)
 INPUT_IDS = [0x0000FF + 0x100 * k for k in CHANNELS]            # din1 to din8
 RELAY_IDS = [0x0100FF + 0x100 * k for k in CHANNELS]            # rout1 to rout8
+DECK_IDS = [0x0100FF + 0x100 * k for k in DECK]                 # rout9 to rout16
 
 ROUND = 2.0                 # s from one look at the box to the next; changes come by themselves
 SILENCE = 5.0               # s without an answer after which the box does not answer
@@ -70,6 +73,9 @@ def text(value):
     data = value.encode("ascii")
     return bytes([len(data)]) + data
 
+
+# 001, EnumerateDevices (type 26): which internal devices there are.
+LIST = b"\x1A\x01"
 
 # 001, Custom Command (type 255): what the box's host itself answers, by type 254, because no message of the box tells it: how many pulses stand
 # in the queue, and which message was refused last, whoever sent it.  An answer does not name its question; the payload's length tells them apart.
@@ -181,13 +187,16 @@ class Box:
                      "at": None, "name": "", "clock": 0, "standing": None, "refused": "",
                      "inputs": [dict.fromkeys(("on", "alarm", *MONITOR_ALARMS, *BLOCK_ALARMS, "usage_alarm"), False) | {"count": 0}
                                 for _ in CHANNELS],
-                     "relays": [dict(closed=False, usage_alarm=False) for _ in CHANNELS]}
+                     "relays": [dict(closed=False, usage_alarm=False) for _ in CHANNELS],
+                     "deck": []}                # the relays of the second deck that are there
         self.sending = threading.Lock()
         self.socket = None
         self.asked = self.answered = 0          # rounds
         self.counts = []                        # how many pulses stood, as told in the round that is being answered
         self.told = {}                          # and in the last rounds that were answered whole
         self.refused = ""                       # the last refused message, as told in the round that is being answered
+        self.listed = []                        # which relays of the second deck the box listed last
+        self.deck_told = False                  # whether it has told their states since then
 
     # -- what is seen ------------------------------------------------------------------------------
 
@@ -208,8 +217,12 @@ class Box:
         kind = fields.number()
         if kind == 1:
             self.take_monitor(fields)
+        elif kind == 2:
+            self.take_external(fields)
         elif kind == 22:
             self.take_devices(fields)
+        elif kind == 27:
+            self.take_list(fields)
         elif kind == 254:
             self.take_custom(fields)
         elif kind == 6:
@@ -222,6 +235,24 @@ class Box:
         inputs = [{**old, **input_status(fields, MONITOR_ALARMS)} for old in self.seen["inputs"]]
         relays = [{**old, "closed": fields.number() == 1} for old in self.seen["relays"]]
         self.change(name=name, inputs=inputs, relays=relays, clock=fields.number(8))
+
+    def take_external(self, fields):
+        """The states of the second deck's relays, rising.  With four of them it does not say at which place their module is: the list of devices does.
+        Where there are not as many as were listed, a module has come or gone since then, and the next round tells.
+        """
+        fields.bytes(fields.number())           # inputs of the second deck, of which there are none
+        states = fields.bytes(fields.number())
+        if len(states) == len(self.listed):
+            self.deck_told = True
+            self.change(deck=[{"relay": k, "closed": state == 1} for k, state in zip(self.listed, states)], clock=fields.number(8))
+
+    def take_list(self, fields):
+        """Which devices there are.  What is not listed any more is not there; what is new is shown when its state is told."""
+        fields.number()
+        ids = {fields.number(8) for _ in range(fields.number(2))}
+        self.listed = [k for k, device in zip(DECK, DECK_IDS) if device in ids]
+        self.deck_told = False
+        self.change(deck=[relay for relay in self.seen["deck"] if relay["relay"] in self.listed])
 
     def take_devices(self, fields):
         inputs, relays = list(self.seen["inputs"]), list(self.seen["relays"])
@@ -254,6 +285,8 @@ class Box:
         self.answered = round_
         values = {"clock": fields.number(8), "at": time.time(), "check": "", "refused": self.refused}
         self.refused = ""                       # a host that is asked and does not tell shows none
+        if not self.deck_told:                  # request 1 was answered with type 1 alone: no module is there
+            values["deck"] = []
         if not self.seen["answers"]:
             values.update(answers=True, since=time.time())
         self.change(**values)
@@ -264,7 +297,7 @@ class Box:
         """Sends messages, and a round behind them; gives the number of the round, which is answered when all before it is done."""
         ids = INPUT_IDS + RELAY_IDS
         devices = b"\x15" + len(ids).to_bytes(2, "big") + b"".join(id.to_bytes(8, "big") for id in ids)
-        messages = [*contents, HOW_MANY, LAST_REFUSED, devices, b"\x05\x00\x01", b"\x05\x00\x00"]
+        messages = [*contents, HOW_MANY, LAST_REFUSED, devices, LIST, b"\x05\x00\x01", b"\x05\x00\x00"]
         with self.sending:
             if self.socket is None:
                 raise Lost("There is no connection to it.")
@@ -272,12 +305,19 @@ class Box:
             self.asked += 1
             return self.asked
 
+    def closed(self, channel):
+        """Whether a relay is closed, as last seen; None where it is not there."""
+        with self.changed:
+            if channel in CHANNELS:
+                return self.seen["relays"][channel - 1]["closed"]
+            return next((relay["closed"] for relay in self.seen["deck"] if relay["relay"] == channel), None)
+
     def command(self, channel, closed):
         """Closes or opens a relay; whether the box then shows it so."""
         mine = self.send(bytes([10, 1 if closed else 2]) + channel.to_bytes(2, "big"))
         with self.changed:
             self.changed.wait_for(lambda: self.answered >= mine or not self.seen["answers"], SILENCE)
-            return self.answered >= mine and self.seen["relays"][channel - 1]["closed"] == closed
+            return self.answered >= mine and self.closed(channel) == closed
 
     def pulse(self, channel, ms):
         """Asks for a pulse; how many stood before it, -1 if it was refused, None if the box did not tell.
@@ -321,6 +361,7 @@ class Box:
             self.talk(connection, Stream())
 
     def talk(self, connection, stream):
+        self.listed, self.deck_told = [], False
         if self.user is not None:
             self.log_in(connection, stream)
         with self.sending:
@@ -450,14 +491,23 @@ class Handler(http.server.BaseHTTPRequestHandler):
         else:
             self.answer(404, "There is no such command.\n")
 
+    def misses(self, channel):
+        """Whether the relay is not there, as last seen; it is answered then."""
+        if self.server.box.closed(channel) is not None:
+            return False
+        self.answer(409, f"Relay {channel} is not there: no module stands at place {1 if channel <= 12 else 2}. Plug one in first.\n")
+        return True
+
     def relay(self, body):
         try:
             asked = json.loads(body)
             channel, closed = asked["relay"], asked["closed"]
-            if type(channel) is not int or channel not in CHANNELS or type(closed) is not bool:
+            if type(channel) is not int or channel not in RELAYS or type(closed) is not bool:
                 raise ValueError
         except (ValueError, KeyError, TypeError):
-            self.answer(400, "A command has a relay from 1 to 8, and closed true or false.\n")
+            self.answer(400, "A command has a relay from 1 to 16, and closed true or false.\n")
+            return
+        if self.misses(channel):
             return
         try:
             done = self.server.box.command(channel, closed)
@@ -465,22 +515,26 @@ class Handler(http.server.BaseHTTPRequestHandler):
             done = False
         if done:
             self.answer(200, "Done.\n")
-        else:
+        elif not self.misses(channel):          # its module may have gone meanwhile
             self.answer(502, f"The box did not {'close' if closed else 'open'} relay {channel}. Look whether it answers, and try again.\n")
 
     def pulse(self, body):
         try:
             asked = json.loads(body)
             channel, ms = asked["relay"], asked["ms"]
-            if type(channel) is not int or channel not in CHANNELS or type(ms) is not int or not 1 <= ms <= LONGEST_PULSE:
+            if type(channel) is not int or channel not in RELAYS or type(ms) is not int or not 1 <= ms <= LONGEST_PULSE:
                 raise ValueError
         except (ValueError, KeyError, TypeError):
-            self.answer(400, f"A pulse has a relay from 1 to 8, and ms from 1 to {LONGEST_PULSE}.\n")
+            self.answer(400, f"A pulse has a relay from 1 to 16, and ms from 1 to {LONGEST_PULSE}.\n")
+            return
+        if self.misses(channel):
             return
         try:
             before = self.server.box.pulse(channel, ms)
         except (Lost, OSError):
             before = None
+        if self.misses(channel):                # its module has gone meanwhile, and the pulse was refused
+            return
         if before is None:
             self.answer(502, f"The box did not tell whether it took the pulse of relay {channel}. Look whether it answers, and at the relay.\n")
         elif before < 0:

@@ -10,6 +10,7 @@ caught within the events given (default 20,000).
 """
 
 import argparse
+import functools
 import sys
 import time
 
@@ -478,7 +479,7 @@ class _(Box):
     def bytes_(self, c, cap, piece, row=PULSES):
         if self.refuse_call(c, cap, row) is None:
             conn = self.connections[c]
-            joined = conn.joined + piece
+            joined = bytes(conn.joined + piece)
             if len(joined) >= 5 and joined[0] == 1:
                 size = number(joined[1:3])
                 early = joined[5:4 + size]
@@ -2682,6 +2683,1220 @@ class _(Box):
         return printed.replace(" ", " 0 ", 1) if name == "collect" else printed
 
 
+# -- the second deck: M-102 ------------------------------------------------------------------------------
+
+class Refilling(Box):
+    """A box that knows which relays of a place were closed when it was last emptied, and which pulses had them."""
+
+    def remove(self, place):
+        of_place = bits(model.PLACES[place])
+        self.closed[place] = self.relay_states() & of_place
+        self.had[place] = [(pulse, pulse.mask & of_place) for pulse in self.queue]
+        super().remove(place)
+
+    def power(self, *settings):
+        super().power(*settings)
+        self.closed, self.had = {1: 0, 2: 0}, {1: [], 2: []}
+
+
+def bits(channels):
+    """As a mask, lowest bit relay 1."""
+    return sum(1 << k - 1 for k in channels)
+
+
+def ranked(conn):
+    """Whether marks may come to it."""
+    return conn.open and conn.rank >= 1
+
+
+# Which places there are.
+
+def placed(name, taken_for):
+    """A box that takes a place for another."""
+    @named(name)
+    class _(Box):
+        def fill(self, place, row=PULSES):
+            return super().fill(taken_for(place), row)
+
+        def empty(self, place, row=PULSES):
+            return super().empty(taken_for(place), row)
+
+
+placed("places counted from 0", lambda place: place + 1)
+placed("the two places exchanged", lambda place: {1: 2, 2: 1}.get(place, place))
+placed("both places are the first", lambda place: 1 if place == 2 else place)
+placed("place 0 taken for the first", lambda place: place or 1)
+placed("place 3 taken for the second", lambda place: 2 if place == 3 else place)
+placed("places above the second taken for it", lambda place: min(place, 2))
+placed("place's highest bit not looked at", lambda place: place & 0x7F)
+placed("place's two lowest bits alone looked at", lambda place: place & 3)
+
+
+def nodding(name, event, places):
+    """A box that answers 1 to the event at such places, and does nothing."""
+    def nods(self, place, row=PULSES):
+        if place in places and row >= PULSES:
+            return SERVED
+        return getattr(Box, event)(self, place, row)
+    named(name)(type("_", (Box,), {event: nods}))
+
+
+nodding("place 0 filled with nothing", "fill", (0,))
+nodding("place 3 filled with nothing", "fill", (3,))
+nodding("places from 128 on filled with nothing", "fill", range(128, 256))
+nodding("place 0 found empty", "empty", (0,))
+nodding("place 3 found empty", "empty", (3,))
+nodding("any other place found empty", "empty", range(3, 256))
+nodding("place 2 never filled", "fill", (2,))
+nodding("place 1 never emptied", "empty", (1,))
+
+
+@named("place refused as what is not offered")
+class _(Box):
+    def refuse_place(self, place, row):
+        refused = super().refuse_place(place, row)
+        return NOT_OFFERED if refused == OUT_OF_RANGE else refused
+
+
+# The row.
+
+@named("place judged before the row")
+class _(Box):
+    def refuse_place(self, place, row):
+        return super().refuse_place(place, row if place in model.PLACES else PULSES)
+
+
+def lending(name, event, row_for):
+    """A box that goes by another row's length at an event; `row_for` gives it from the box, the place and the row."""
+    def lent(self, place, row=PULSES):
+        return getattr(Box, event)(self, place, row_for(self, place, row))
+    named(name)(type("_", (Box,), {event: lent}))
+
+
+lending("row not judged for a filling", "fill", lambda box, place, row: PULSES)
+lending("row not judged for an emptying", "empty", lambda box, place, row: PULSES)
+lending("row not judged where a place is filled again", "fill", lambda box, place, row: PULSES if place in box.filled else row)
+lending("row not judged where there is nothing to empty", "empty", lambda box, place, row: row if place in box.filled else PULSES)
+lending("row judged for an emptying only where a pulse stands", "empty", lambda box, place, row: row if box.queue else PULSES)
+lending("row of 30 enough for a filling", "fill", lambda box, place, row: row + 1)
+lending("row of 30 enough for an emptying", "empty", lambda box, place, row: row + 1)
+lending("row of 31 too short for a filling", "fill", lambda box, place, row: row - 1)
+lending("row of 31 too short for an emptying", "empty", lambda box, place, row: row - 1)
+lending("row of 64 refused for an emptying", "empty", lambda box, place, row: row if row < 64 else 0)
+
+
+@named("filled though the row is short")
+class _(Box):
+    def fill(self, place, row=PULSES):
+        super().fill(place)
+        return super().fill(place, row)
+
+
+@named("emptied though the row is short")
+class _(Box):
+    def empty(self, place, row=PULSES):
+        super().empty(place)
+        return super().empty(place, row)
+
+
+# Again.
+
+def again(name, event, also):
+    """A box that does something where the event changes nothing: `also` does it to box and place, and may give another answer."""
+    def does(self, place, row=PULSES):
+        before = place in self.filled
+        answer = getattr(Box, event)(self, place, row)
+        if answer == SERVED and before == (event == "fill"):
+            return also(self, place) or answer
+        return answer
+    named(name)(type("_", (Box,), {event: does}))
+
+
+again("filling again refused", "fill", lambda box, place: OUT_OF_RANGE)
+again("emptying again refused", "empty", lambda box, place: OUT_OF_RANGE)
+again("filling again opens the module's relays", "fill", lambda box, place: box.put_masked(bits(model.PLACES[place]), 0))
+again("filling again takes the module out first", "fill", lambda box, place: box.remove(place) or box.filled.add(place))
+again("filling again empties the place", "fill", Box.remove)
+again("filling again marks", "fill", lambda box, place: box.changed(False))
+again("emptying again fills the place", "empty", lambda box, place: box.filled.add(place))
+again("emptying again marks", "empty", lambda box, place: box.changed(False))
+again("emptying again opens the other module's relays", "empty", lambda box, place: box.put_masked(0xFF00, 0))
+
+
+@named("emptying again clears the marks")
+class _(Box):
+    def empty(self, place, row=PULSES):
+        answer = super().empty(place, row)
+        if answer == SERVED:
+            for conn in self.connections:
+                conn.due2 = 0
+        return answer
+
+
+# What is filled.
+
+@named("filling fills both places")
+class _(Box):
+    def fill(self, place, row=PULSES):
+        answer = super().fill(place, row)
+        return super().fill(3 - place, row) if answer == SERVED else answer
+
+
+@named("emptying empties both places")
+class _(Box):
+    def empty(self, place, row=PULSES):
+        answer = super().empty(place, row)
+        return super().empty(3 - place, row) if answer == SERVED else answer
+
+
+@named("a second module drives the first out")
+class _(Box):
+    def fill(self, place, row=PULSES):
+        answer = super().fill(place, row)
+        return super().empty(3 - place, row) if answer == SERVED else answer
+
+
+@named("a second module refused")
+class _(Box):
+    def fill(self, place, row=PULSES):
+        return OUT_OF_RANGE if row >= PULSES and self.filled - {place} else super().fill(place, row)
+
+
+@named("modules stay over power-up")
+class _(Box):
+    def power(self, *settings):
+        kept = getattr(self, "filled", set())
+        super().power(*settings)
+        self.filled = kept
+
+
+@named("place 1 filled at power-up")
+class _(Box):
+    def power(self, *settings):
+        super().power(*settings)
+        self.filled = {1}
+
+
+@named("modules' relays stay closed over power-up")
+class _(Box):
+    def power(self, *settings):
+        kept = [relay.state for relay in getattr(self, "relays", ())[8:]]
+        super().power(*settings)
+        for relay, state in zip(self.relays[8:], kept):
+            relay.state = state
+
+
+def filling(name, also):
+    """A box that does something when a module comes; `also` does it to box and place."""
+    @named(name)
+    class _(Refilling):
+        def fill(self, place, row=PULSES):
+            before = set(self.filled)
+            answer = super().fill(place, row)
+            if self.filled != before:
+                also(self, place)
+            return answer
+
+
+def mark2(box, *_):
+    for conn in box.connections:
+        if ranked(conn) and conn.monitor:
+            conn.due2 = 1
+
+
+def masks_back(box, place):
+    for pulse, mask in box.had[place]:
+        if pulse in box.queue:
+            pulse.mask |= mask
+
+
+filling("filling marks type 2", mark2)
+filling("filling marks type 1", lambda box, place: box.changed())
+filling("the second filling marks type 2", lambda box, place: mark2(box) if len(box.filled) == 2 else None)
+filling("a module comes back as it went", lambda box, place: box.put_masked(box.closed[place], 0xFFFF))
+filling("a module's relays are closed when it comes", lambda box, place: box.put_masked(bits(model.PLACES[place]), 0xFFFF))
+filling("a module that comes opens the other's relays", lambda box, place: box.put_masked(0xFF00, 0))
+filling("a module that comes back is in the masks again", masks_back)
+
+
+# What goes with a module.
+
+@named("removed relays stay closed")
+class _(Refilling):
+    def remove(self, place):
+        super().remove(place)
+        for k in model.PLACES[place]:
+            self.relays[k - 1].state = self.closed[place] >> k - 1 & 1
+
+
+@named("first relay alone of a removed module opens")
+class _(Refilling):
+    def remove(self, place):
+        super().remove(place)
+        for k in model.PLACES[place][1:]:
+            self.relays[k - 1].state = self.closed[place] >> k - 1 & 1
+
+
+def removing(name, also):
+    """A box that does something more when a module goes; `also` does it to box, place and the marks before."""
+    @named(name)
+    class _(Refilling):
+        def remove(self, place):
+            marks = marks_of(self)
+            super().remove(place)
+            also(self, place, marks)
+
+
+def marks_again(box, place, marks):
+    for conn, (due, due2) in zip(box.connections, marks):
+        conn.due2 = due2
+
+
+def unless_present(do):
+    return lambda box, place, marks: None if box.filled else do(box, place, marks)
+
+
+def if_present(do):
+    return lambda box, place, marks: do(box, place, marks) if box.filled else None
+
+
+def clear2(box, *_):
+    for conn in box.connections:
+        conn.due2 = 0
+
+
+def clear1(box, *_):
+    for conn in box.connections:
+        conn.due = 0
+
+
+removing("removed relays open, the other module's too", lambda box, place, marks: box.put_masked(0xFF00, 0))
+removing("removed relays open, and all others", lambda box, place, marks: box.put_masked(0xFFFF, 0))
+removing("the last emptying leaves the marks", unless_present(marks_again))
+removing("the last emptying leaves its own change's mark", unless_present(
+    lambda box, place, marks: mark2(box) if box.closed[place] else None))
+removing("the last emptying marks", unless_present(mark2))
+removing("the last emptying clears type 1's marks too", unless_present(clear1))
+removing("every emptying clears the marks", clear2)
+removing("emptying one of two marks nothing", if_present(marks_again))
+removing("emptying one of two marks though all was open", if_present(mark2))
+removing("emptying one of two marks by the other's closed relays", if_present(
+    lambda box, place, marks: mark2(box) if box.relay_states() >> 8 else None))
+removing("emptying marks type 1", lambda box, place, marks: box.changed() if box.closed[place] else None)
+removing("emptying marks type 1 by any emptying", lambda box, place, marks: box.changed())
+removing("emptying turns Monitor off", lambda box, place, marks: [setattr(conn, "monitor", 0) for conn in box.connections])
+
+
+@named("the last emptying clears the first connection's mark alone")
+class _(Box):
+    def remove(self, place):
+        marks = marks_of(self)
+        super().remove(place)
+        for conn, (due, due2) in list(zip(self.connections, marks))[1:]:
+            conn.due2 = conn.due2 or due2
+
+
+@named("the last emptying leaves the marks where Monitor is off or rank 0")
+class _(Box):
+    def remove(self, place):
+        super().remove(place)
+        if not self.filled:
+            for conn in self.connections:
+                conn.due2 = 1 if conn.open and not (ranked(conn) and conn.monitor) else 0
+
+
+# Pulses that stand when it goes.
+
+@named("waiting pulses keep removed relays")
+class _(Refilling):
+    def remove(self, place):
+        super().remove(place)
+        for pulse, mask in self.had[place][1:]:
+            pulse.mask |= mask
+
+
+@named("running pulse keeps removed relays")
+class _(Refilling):
+    def remove(self, place):
+        super().remove(place)
+        for pulse, mask in self.had[place][:1]:
+            pulse.mask |= mask
+
+
+@named("pulses behind the first that waits keep removed relays")
+class _(Refilling):
+    def remove(self, place):
+        super().remove(place)
+        for pulse, mask in self.had[place][2:]:
+            pulse.mask |= mask
+
+
+@named("last pulse keeps removed relays")
+class _(Refilling):
+    def remove(self, place):
+        super().remove(place)
+        for pulse, mask in self.had[place][-1:]:
+            pulse.mask |= mask
+
+
+@named("states shown of relays that left the mask")
+class _(Box):
+    def remove(self, place):
+        states = [pulse.states for pulse in self.queue]
+        super().remove(place)
+        for pulse, before in zip(self.queue, states):
+            pulse.states = before
+
+
+def left_bare(box, place):
+    """The pulses that a removal has left without relays."""
+    return [pulse for pulse, mask in box.had[place] if mask and not pulse.mask]
+
+
+@named("waiting pulse left without relays leaves the queue")
+class _(Refilling):
+    def remove(self, place):
+        super().remove(place)
+        bare = left_bare(self, place)
+        self.queue[1:] = [pulse for pulse in self.queue[1:] if pulse not in bare]
+
+
+@named("running pulse left without relays ends at once")
+class _(Refilling):
+    def remove(self, place):
+        super().remove(place)
+        if self.queue[:1] and self.queue[0] in left_bare(self, place):
+            self.run_down(self.left)
+
+
+@named("running pulse left without relays has one ms left")
+class _(Refilling):
+    def remove(self, place):
+        super().remove(place)
+        if self.queue[:1] and self.queue[0] in left_bare(self, place):
+            self.left = 1
+
+
+@named("running pulse left without relays begins its time anew")
+class _(Refilling):
+    def remove(self, place):
+        super().remove(place)
+        if self.queue[:1] and self.queue[0] in left_bare(self, place):
+            self.left = self.queue[0].duration
+
+
+@named("waiting pulse left without relays has one ms left")
+class _(Refilling):
+    def remove(self, place):
+        super().remove(place)
+        for pulse in left_bare(self, place):
+            if pulse is not self.queue[0]:
+                pulse.duration = 1
+
+
+@named("emptying ends the running pulse")
+class _(Box):
+    def remove(self, place):
+        super().remove(place)
+        if self.queue:
+            self.run_down(self.left)
+
+
+@named("emptying drops the queue")
+class _(Box):
+    def remove(self, place):
+        super().remove(place)
+        self.queue = []
+
+
+@named("emptying drops the waiting pulses")
+class _(Box):
+    def remove(self, place):
+        super().remove(place)
+        del self.queue[1:]
+
+
+def losing(name, lost):
+    """A box whose pulses lose other relays with a module; `lost` gives their mask from the place."""
+    @named(name)
+    class _(Box):
+        def remove(self, place):
+            super().remove(place)
+            for pulse in self.queue:
+                pulse.lose(lost(place))
+
+
+losing("all relays leave the masks with a module", lambda place: 0xFFFF)
+losing("the other module's relays leave the masks too", lambda place: 0xFF00)
+losing("relay 8 leaves the masks with the first module", lambda place: 0x80 if place == 1 else 0)
+losing("relay 13 leaves the masks with the first module", lambda place: 0x1000 if place == 1 else 0)
+losing("relay 12 leaves the masks with the second module", lambda place: 0x800 if place == 2 else 0)
+
+
+@named("the running pulse's relays return when a module goes")
+class _(Box):
+    def remove(self, place):
+        super().remove(place)
+        if self.queue:
+            self.put_masked(self.queue[0].mask, self.remembered)
+
+
+# Channels.
+
+def reaching(name, goes):
+    """A box that takes other channels; `goes` says whether, from box, action, channel and whether it should."""
+    @named(name)
+    class _(Box):
+        def judge_channel(self, action, channel):
+            try:
+                super().judge_channel(action, channel)
+                right = True
+            except Refused:
+                right = False
+            if not goes(self, action, channel, right):
+                raise Refused(OUT_OF_RANGE)
+
+        def channel_action(self, action, channel):
+            if channel <= 8 or action in (1, 2, 3):
+                super().channel_action(action, min(channel, 16))
+
+        def pulse(self, mask, states, duration):
+            super().pulse(min(mask, 1 << 15), min(states, 1 << 15), duration)
+
+
+def keeping_to_8(*actions):
+    return lambda box, action, channel, right: right and (channel <= 8 or action not in actions)
+
+
+def going_to_16(*actions):
+    return lambda box, action, channel, right: right or action in actions and channel in box.deck()
+
+
+reaching("action 1 keeps to relays 1 to 8", keeping_to_8(1))
+reaching("action 2 keeps to relays 1 to 8", keeping_to_8(2))
+reaching("action 3 keeps to relays 1 to 8", keeping_to_8(3))
+reaching("action 6 keeps to relays 1 to 8", keeping_to_8(6))
+reaching("action 5 goes to channel 16", going_to_16(5))
+reaching("action 8 goes to channel 16", going_to_16(8))
+reaching("action 9 goes to relay 16", going_to_16(9))
+reaching("channel 9 refused", lambda box, action, channel, right: right and channel != 9)
+reaching("channel 12 refused", lambda box, action, channel, right: right and channel != 12)
+reaching("channel 13 refused", lambda box, action, channel, right: right and channel != 13)
+reaching("channel 16 refused", lambda box, action, channel, right: right and channel != 16)
+reaching("channel 17 served", lambda box, action, channel, right: right or action in (1, 2, 3, 6) and channel == 17)
+reaching("channel 17 served where place 2 is filled",
+         lambda box, action, channel, right: right or action in (1, 2, 3, 6) and channel == 17 and 2 in box.filled)
+reaching("channel 13 served where place 1 alone is filled",
+         lambda box, action, channel, right: right or action in (1, 2, 3, 6) and channel == 13 and 1 in box.filled)
+reaching("channel 12 served where place 2 alone is filled",
+         lambda box, action, channel, right: right or action in (1, 2, 3, 6) and channel == 12 and 2 in box.filled)
+reaching("one module has the channels of both",
+         lambda box, action, channel, right: right or action in (1, 2, 3, 6) and 9 <= channel <= 16 and box.filled)
+reaching("channels without their module served",
+         lambda box, action, channel, right: right or action in (1, 2, 3, 6) and 9 <= channel <= 16)
+reaching("both modules needed for either's channels",
+         lambda box, action, channel, right: right and (channel <= 8 or len(box.filled) == 2))
+reaching("channels 9 to 16 refused", lambda box, action, channel, right: right and channel <= 8)
+
+
+@named("channels without their module answered 1 and nothing done")
+class _(Box):
+    def command(self, conn, fields):
+        content = fields.content
+        if len(content) == 4 and content[1] in (1, 2, 3) and 9 <= number(content[2:]) <= 16 and number(content[2:]) not in self.deck():
+            return []
+        return super().command(conn, fields)
+
+
+@named("pulse without its module queued with mask 0")
+class _(Box):
+    def channel_pulse(self, fields):
+        channel = number(fields.content[2:4])
+        if pulsing(fields) and 9 <= channel <= 16 and channel not in self.deck():
+            self.pulse(0, 0, duration_of(fields))
+        else:
+            super().channel_pulse(fields)
+
+
+@named("absent module judged before the length")
+class _(Box):
+    def command(self, conn, fields):
+        content = fields.content
+        if len(content) >= 4 and content[1] in (1, 2, 3, 6) and 9 <= number(content[2:4]) <= 16:
+            self.judge_channel(content[1], number(content[2:4]))
+        return super().command(conn, fields)
+
+
+@named("full queue judged before the absent module")
+class _(Box):
+    def channel_pulse(self, fields):
+        if pulsing(fields) and 9 <= number(fields.content[2:4]) <= 16 and duration_of(fields) and len(self.queue) >= PULSES:
+            raise Refused(QUEUE_FULL)
+        super().channel_pulse(fields)
+
+
+@named("absent module answered as a type that is not offered")
+class _(Box):
+    def judge_channel(self, action, channel):
+        if action in (1, 2, 3, 6) and 9 <= channel <= 16 and channel not in self.deck():
+            raise Refused(NOT_OFFERED)
+        super().judge_channel(action, channel)
+
+
+def acting(name, taken_for):
+    """A box that does an action to another channel; `taken_for` gives it from box and channel."""
+    @named(name)
+    class _(Box):
+        def channel_action(self, action, channel):
+            super().channel_action(action, taken_for(self, channel))
+
+
+acting("second deck's channels taken for the first's", lambda box, channel: channel - 8 if channel > 8 else channel)
+acting("second module alone numbered from 9", lambda box, channel: channel - 4 if channel > 12 and box.filled == {2} else channel)
+acting("channel 16 taken for 15", lambda box, channel: min(channel, 15))
+acting("channel 9 taken for 10", lambda box, channel: 10 if channel == 9 else channel)
+
+
+@named("opening a module's relay does nothing")
+class _(Box):
+    def channel_action(self, action, channel):
+        if channel <= 8 or action != 2:
+            super().channel_action(action, channel)
+
+
+@named("toggling a module's relay closes it")
+class _(Box):
+    def channel_action(self, action, channel):
+        super().channel_action(1 if action == 3 and channel > 8 else action, channel)
+
+
+# Pulses and blocks.
+
+@named("pulse's mask cut to 8 bits")
+class _(Box):
+    def pulse(self, mask, states, duration):
+        super().pulse(mask & 0xFF, states, duration)
+
+
+@named("pulse's states cut to 8 bits")
+class _(Box):
+    def pulse(self, mask, states, duration):
+        super().pulse(mask, states & 0xFF, duration)
+
+
+@named("remembered states cut to 8 bits")
+class _(Box):
+    def begin(self):
+        super().begin()
+        self.remembered &= 0xFF
+
+
+@named("modules' relays do not return at a pulse's end")
+class _(Box):
+    def end(self):
+        self.queue[0].lose(0xFF00)
+        super().end()
+
+
+@named("pulse of a module's relay begins beside the running one")
+class _(Box):
+    def pulse(self, mask, states, duration):
+        super().pulse(mask, states, duration)
+        if mask > 0xFF:
+            self.put_masked(mask, states)
+
+
+@named("action 10's mask goes to both decks")
+class _(Box):
+    def block_change(self, mask, state):
+        super().block_change(mask | mask << 8 & bits(self.deck()), state | state << 8)
+
+
+@named("action 10 opens the second deck")
+class _(Box):
+    def block_change(self, mask, state):
+        super().block_change(mask | 0xFF00, state)
+
+
+@named("action 7's mask goes to both decks")
+class _(Box):
+    def pulse(self, mask, states, duration):
+        if mask < 0x100:
+            mask, states = mask | mask << 8 & bits(self.deck()), states | states << 8
+        super().pulse(mask, states, duration)
+
+
+@named("block change for 16 relays served")
+class _(Box):
+    def command(self, conn, fields):
+        content = fields.content
+        if len(content) == 6 and content[1] == 10:
+            fields = Fields(content[:2] + content[3:4] + content[5:], fields.position)
+        return super().command(conn, fields)
+
+
+@named("usage of relays 9 to 16 grows")
+class _(Box):
+    def grow(self, d):
+        super().grow(d)
+        for relay in self.relays[8:]:
+            if relay.state:
+                relay.usage = self.grown(relay.usage, d)
+
+
+@named("usage message with the modules' relays")
+class _(Box):
+    def usage_content(self):
+        usages = super().usage_content()
+        return usages[:-8] + bytes(8 * len(self.deck())) + usages[-8:]
+
+
+# Type 1.
+
+@named("type 1 shows the modules' relays too")
+class _(Box):
+    def monitor_content(self):
+        content = super().monitor_content()
+        return content[:-8] + bytes(self.relays[k - 1].state for k in self.deck()) + content[-8:]
+
+
+def marking(name, marks):
+    """A box that marks otherwise; `marks` gives the two marks of a change from the box, whether it is of a level or relay from 1 to 8
+    and the two that should be.
+    """
+    @named(name)
+    class _(Box):
+        def changed(self, internal=True):
+            due, due2 = marks(self, internal, internal, self.module_present())
+            for conn in self.connections:
+                if ranked(conn) and conn.monitor:
+                    conn.due, conn.due2 = int(conn.due or due), int(conn.due2 or due2)
+
+
+marking("modules' relays mark type 1", lambda box, internal, due, due2: (True, due2))
+marking("modules' relays mark type 1 alone", lambda box, internal, due, due2: (True, due2 and internal))
+marking("modules' relays mark nothing", lambda box, internal, due, due2: (due, due2 and internal))
+marking("type 2 marked by its own relays alone", lambda box, internal, due, due2: (due, due2 and not internal))
+marking("with a module present type 2 alone is marked", lambda box, internal, due, due2: (due and not due2, due2))
+marking("type 2 marked without a module", lambda box, internal, due, due2: (due, True))
+marking("type 2 marked only with both modules", lambda box, internal, due, due2: (due, len(box.filled) == 2))
+marking("type 2 marked only with one module", lambda box, internal, due, due2: (due, len(box.filled) == 1))
+marking("type 2 marked only with place 1 filled", lambda box, internal, due, due2: (due, 1 in box.filled))
+marking("type 2 marked only with place 2 filled", lambda box, internal, due, due2: (due, 2 in box.filled))
+marking("type 2 never marked by a change", lambda box, internal, due, due2: (due, False))
+
+
+@named("levels do not mark type 2")
+class _(Box):
+    def level(self, k, v):
+        marks = marks_of(self)
+        answer = super().level(k, v)
+        for conn, (due, due2) in zip(self.connections, marks):
+            conn.due2 = due2
+        return answer
+
+
+@named("relay 8 counted to the second deck")
+class _(Box):
+    def relays_changed(self, channels):
+        if channels:
+            self.changed(any(k < 8 for k in channels))
+
+
+@named("relay 9 counted to the first deck")
+class _(Box):
+    def relays_changed(self, channels):
+        if channels:
+            self.changed(any(k < 10 for k in channels))
+
+
+@named("type 2 marked with Monitor off")
+class _(Box):
+    def changed(self, internal=True):
+        super().changed(internal)
+        for conn in self.connections:
+            if ranked(conn) and self.filled:
+                conn.due2 = 1
+
+
+@named("type 2 marked at rank 0")
+class _(Box):
+    def changed(self, internal=True):
+        super().changed(internal)
+        for conn in self.connections:
+            if conn.open and conn.monitor and self.filled:
+                conn.due2 = 1
+
+
+@named("type 2 marked on shut connections")
+class _(Box):
+    def changed(self, internal=True):
+        super().changed(internal)
+        for conn in self.connections:
+            if not conn.open and self.filled:
+                conn.due2 = 1
+
+
+@named("type 2 marked for administrators alone")
+class _(Box):
+    def changed(self, internal=True):
+        marks = marks_of(self)
+        super().changed(internal)
+        for conn, (due, due2) in zip(self.connections, marks):
+            conn.due2 = conn.due2 if conn.rank == 2 else due2
+
+
+@named("sender left out of type 2's marks")
+class _(Box):
+    def serve(self, conn, content):
+        before = conn.due2
+        answer = super().serve(conn, content)
+        if content[0] in (10, 23):
+            conn.due2 = before
+        return answer
+
+
+def not_marking(name, method):
+    """A box in which this does not mark type 2."""
+    def does(self, *words):
+        marks = marks_of(self)
+        answer = getattr(Box, method)(self, *words)
+        for conn, (due, due2) in zip(self.connections, marks):
+            conn.due2 = due2
+        return answer
+    named(name)(type("_", (Box,), {method: does}))
+
+
+not_marking("pulses' beginnings do not mark type 2", "begin")
+not_marking("pulses' ends do not mark type 2", "end")
+not_marking("write entries do not mark type 2", "write_relay")
+not_marking("blocks do not mark type 2", "block_change")
+
+
+# Openings and closings.
+
+def opening(name, due2):
+    """A box that marks type 2 otherwise at an opening; `due2` says whether, from box and rank."""
+    @named(name)
+    class _(Box):
+        def open(self, c, rank, strict=0):
+            answer = super().open(c, rank, strict)
+            if answer == SERVED:
+                self.connections[c].due2 = 1 if due2(self, rank) else 0
+            return answer
+
+
+opening("opening does not mark type 2", lambda box, rank: False)
+opening("opening marks type 2 without a module", lambda box, rank: rank)
+opening("opening at rank 0 marks type 2", lambda box, rank: box.filled)
+opening("opening at rank 1 does not mark type 2", lambda box, rank: box.filled and rank == 2)
+opening("opening marks type 2 only with both modules", lambda box, rank: rank and len(box.filled) == 2)
+opening("opening marks type 2 only with place 1 filled", lambda box, rank: rank and 1 in box.filled)
+
+
+@named("type 2's mark left at a closing")
+class _(Box):
+    def close(self, c):
+        due2 = self.is_open(c) and self.connections[c].due2
+        answer = super().close(c)
+        if answer == SERVED:
+            self.connections[c].due2 = due2
+        return answer
+
+
+@named("opening with a module marks the others' type 2")
+class _(Box):
+    def open(self, c, rank, strict=0):
+        answer = super().open(c, rank, strict)
+        if answer == SERVED and self.filled:
+            mark2(self)
+        return answer
+
+
+# Collections.
+
+def collecting(name, written, left):
+    """A box that collects otherwise: from the two marks and the box, which messages it writes, by type, and the marks it leaves."""
+    @named(name)
+    class _(Box):
+        def collect(self, c, cap):
+            refused = self.refuse_call(c, cap)
+            if refused:
+                return refused, b""
+            conn = self.connections[c]
+            contents = {1: self.monitor_content(), 2: self.external_content()}
+            reply = self.frames([contents[kind] for kind in written(conn.due, conn.due2, self)])
+            conn.due, conn.due2 = left(conn.due, conn.due2)
+            return SERVED if reply else WAITING, reply
+
+
+def rightly(due, due2, box):
+    return [1] * due + [2] * due2
+
+
+def neither(due, due2):
+    return 0, 0
+
+
+collecting("collection leaves type 2's mark", rightly, lambda due, due2: (0, due2))
+collecting("collection with both due leaves type 2's mark", rightly, lambda due, due2: (0, due & due2))
+collecting("collection with both due leaves type 1's mark", rightly, lambda due, due2: (due & due2, 0))
+collecting("one collection for each message due", lambda due, due2, box: [1] if due else [2] * due2, lambda due, due2: (0, due & due2))
+collecting("type 1 alone written of both, and both marks cleared", lambda due, due2, box: [1] if due else [2] * due2, neither)
+collecting("type 2 alone written of both", lambda due, due2, box: [2] if due2 else [1] * due, neither)
+collecting("type 2 collected before type 1", lambda due, due2, box: [2] * due2 + [1] * due, neither)
+collecting("type 2 alone due brings type 1 along", lambda due, due2, box: [1] * (due | due2) + [2] * due2, neither)
+collecting("type 1 alone due brings type 2 along", lambda due, due2, box: [1] * due + [2] * (due2 or due and len(box.filled) > 0), neither)
+collecting("type 2 due brings nothing without type 1", lambda due, due2, box: [1, 2][:1 + due2] if due else [], neither)
+collecting("type 2 due waits for type 1", lambda due, due2, box: [1, 2][:1 + due2] if due else [],
+           lambda due, due2: (0, 0 if due else due2))
+collecting("type 2 never collected", lambda due, due2, box: [1] * due, neither)
+
+
+@named("buffer not judged where type 1 is not due")
+class _(Box):
+    def collect(self, c, cap):
+        return super().collect(c, cap if not self.is_open(c) or self.connections[c].due else 4096)
+
+
+@named("External Monitor message made at the change, not at collection")
+class _(Box):
+    def changed(self, internal=True):
+        super().changed(internal)
+        self.made = self.external_content()
+
+    def collect(self, c, cap):
+        made, two = self.made, self.is_open(c) and self.connections[c].due2
+        answer, reply = super().collect(c, cap)
+        first = 102 if reply[5:6] == b"\x01" else 0
+        return answer, reply[:first] + self.frame(made) if reply and two and made else reply
+
+    def power(self, *settings):
+        super().power(*settings)
+        self.made = b""
+
+
+def framing(name, frames):
+    """A box that frames two messages otherwise."""
+    @named(name)
+    class _(Box):
+        def frames(self, contents):
+            return frames(self, contents) if len(contents) == 2 else super().frames(contents)
+
+
+framing("both messages in one frame", lambda box, contents: box.frame(b"".join(contents)))
+framing("second message without its header", lambda box, contents: box.frame(contents[0]) + contents[1])
+framing("second message with the first's checksum", lambda box, contents: box.frame(contents[0]) + b"\x01" + field(
+    len(contents[1]), 2) + field(crc16(contents[0]), 2) + contents[1])
+framing("second message with checksum 0xFFFF", lambda box, contents: box.frame(contents[0]) + b"\x01" + field(
+    len(contents[1]), 2) + b"\xFF\xFF" + contents[1])
+framing("second message written over the first", lambda box, contents: box.frame(contents[1]))
+framing("a byte between the two messages", lambda box, contents: box.frame(contents[0]) + b"\x00" + box.frame(contents[1]))
+
+
+# What type 2 says.
+
+def telling_deck(name, content):
+    """A box whose External Monitor message is another; `content` gives it from the box, the relays that are present and the right one."""
+    @named(name)
+    class _(Box):
+        def external_content(self):
+            return content(self, self.deck(), super().external_content())
+
+
+def deck_content(box, channels, count=None):
+    states = bytes(box.relays[k - 1].state for k in channels)
+    return b"\x02\x00" + field(len(states) if count is None else count, 1) + states + field(box.clock, 8)
+
+
+telling_deck("type 2 shows eight outputs always", lambda box, deck, right: deck_content(box, range(9, 17)))
+telling_deck("type 2 shows four outputs always", lambda box, deck, right: deck_content(box, deck[:4]))
+telling_deck("type 2 counts eight always", lambda box, deck, right: deck_content(box, deck, 8))
+telling_deck("type 2 counts four always", lambda box, deck, right: deck_content(box, deck, 4))
+telling_deck("type 2 counts modules", lambda box, deck, right: deck_content(box, deck, len(box.filled)))
+telling_deck("type 2 shows place 1 for place 2", lambda box, deck, right: deck_content(box, range(9, 9 + len(deck))))
+telling_deck("type 2 shows place 2 before place 1", lambda box, deck, right: deck_content(box, deck[4:] + deck[:4]))
+telling_deck("type 2 shows outputs falling", lambda box, deck, right: deck_content(box, deck[::-1]))
+telling_deck("type 2 shows relays 1 to 8", lambda box, deck, right: deck_content(box, [k - 8 for k in deck]))
+telling_deck("type 2 shows all sixteen", lambda box, deck, right: deck_content(box, range(1, 17)))
+telling_deck("type 2 without its inputs' count", lambda box, deck, right: right[:1] + right[2:])
+telling_deck("type 2 counts the box's inputs", lambda box, deck, right: right[:1] + b"\x08" + right[2:])
+telling_deck("type 2 counts outputs before inputs", lambda box, deck, right: right[:1] + right[2:3] + right[1:2] + right[3:])
+telling_deck("type 2 without the clock", lambda box, deck, right: right[:-8])
+telling_deck("type 2 with half the clock", lambda box, deck, right: right[:-8] + right[-4:])
+telling_deck("type 2 with the states in one byte", lambda box, deck, right: right[:3] + field(box.relay_states() >> 8, 1) + right[-8:])
+telling_deck("type 2 with type 1's number", lambda box, deck, right: b"\x01" + right[1:])
+
+
+# Requests.
+
+def asking(name, request, also):
+    """A box that does something more at this request; `also` does it to box and connection, with the contents of the answer, and may
+    give others.
+    """
+    @named(name)
+    class _(Box):
+        def request(self, conn, fields):
+            due, due2 = conn.due, conn.due2
+            answer = super().request(conn, fields)
+            if fields.content[1:3] == field(request, 2):
+                answer = also(self, conn, answer, due2)
+            return answer
+
+
+def setting(conn, due2, answer):
+    conn.due2 = due2
+    return answer
+
+
+asking("request 1 answers type 1 alone", 1, lambda box, conn, answer, due2: answer[:1])
+asking("request 1 answers type 2 alone with a module", 1, lambda box, conn, answer, due2: answer[-1:])
+asking("request 1 answers type 2 before type 1", 1, lambda box, conn, answer, due2: answer[::-1])
+asking("request 1 answers type 2 without a module too", 1, lambda box, conn, answer, due2: answer[:1] + [box.external_content()])
+asking("request 1 answers type 2 only where it is due", 1, lambda box, conn, answer, due2: answer[:1 + due2])
+asking("request 1 answers type 2 only with Monitor on", 1, lambda box, conn, answer, due2: answer[:1 + conn.monitor])
+asking("request 1 answers type 2 only with both modules", 1, lambda box, conn, answer, due2: answer[:len(box.filled) or 1])
+asking("request 1 clears type 2's mark", 1, lambda box, conn, answer, due2: setting(conn, 0, answer))
+asking("request 1 sets type 2's mark", 1, lambda box, conn, answer, due2: setting(conn, 1 if box.filled else 0, answer))
+asking("request 4 leaves type 2's mark", 4, lambda box, conn, answer, due2: setting(conn, due2, answer))
+asking("request 5 sets type 2's mark", 5, lambda box, conn, answer, due2: setting(conn, 1, answer))
+asking("request 5 sets type 2's mark with a module", 5, lambda box, conn, answer, due2: setting(conn, 1 if box.filled else 0, answer))
+asking("request 5 clears type 2's mark", 5, lambda box, conn, answer, due2: setting(conn, 0, answer))
+asking("request 5 answers type 2", 5, lambda box, conn, answer, due2: [box.external_content()] if box.filled else answer)
+asking("request 0 brings type 2 along", 0, lambda box, conn, answer, due2: answer + ([box.external_content()] if box.filled else []))
+asking("request 2 brings type 2 along", 2, lambda box, conn, answer, due2: answer + ([box.external_content()] if box.filled else []))
+
+
+@named("External Monitor message arriving answered")
+class _(Box):
+    OFFERED = dict(Box.OFFERED)
+    OFFERED[2] = "arriving"
+
+    def arriving(self, conn, fields):
+        return [self.external_content()] if self.filled else []
+
+
+# IDs.
+
+def listing_deck(name, ids):
+    """A box that lists other relays of the second deck; `ids` gives their IDs from the box and the right ones."""
+    @named(name)
+    class _(Box):
+        def deck_ids(self):
+            return tuple(ids(self, super().deck_ids()))
+
+
+listing_deck("IDs of absent relays listed", lambda box, ids: model.DECK_IDS)
+listing_deck("IDs of both modules listed with one", lambda box, ids: model.DECK_IDS if ids else ())
+listing_deck("IDs of modules' relays not listed", lambda box, ids: ())
+listing_deck("IDs of one module listed at most", lambda box, ids: ids[:4])
+listing_deck("second module alone listed as relays 9 to 12", lambda box, ids: model.DECK_IDS[:len(ids)])
+listing_deck("IDs of the second module listed first", lambda box, ids: ids[4:] + ids[:4])
+listing_deck("modules' relays listed falling", lambda box, ids: ids[::-1])
+listing_deck("modules' first relays alone listed", lambda box, ids: ids[::4])
+listing_deck("IDs of modules' relays by decimal digits", lambda box, ids: [0x0100FF + 0x100 * int(str(k), 16) for k in box.deck()])
+listing_deck("IDs of modules' relays as those of inputs 9 to 16", lambda box, ids: [id - 0x010000 for id in ids])
+listing_deck("IDs of modules' relays one step on", lambda box, ids: [id + 0x100 for id in ids])
+
+
+@named("modules' relays listed behind the inputs")
+class _(Box):
+    def enumerate_devices(self, conn, fields):
+        return [content[:68] + content[132:] + content[68:132] for content in super().enumerate_devices(conn, fields)]
+
+
+@named("modules' relays listed and not counted")
+class _(Box):
+    def enumerate_devices(self, conn, fields):
+        return [content[:2] + field(min(number(content[2:4]), 16), 2) + content[4:] for content in super().enumerate_devices(conn, fields)]
+
+
+@named("modules' relays listed as external devices")
+class _(Box):
+    def enumerate_devices(self, conn, fields):
+        first, = super().enumerate_devices(conn, fields)
+        flags, deck = fields.content[1], b"".join(field(id, 8) for id in self.deck_ids())
+        ids = first[4:132] + (deck if flags & 2 else b"")
+        return [first[:2] + field(len(ids) // 8, 2) + ids]
+
+
+def on_deck(box, id):
+    """The relay of the second deck that has this ID, if its module is present."""
+    return box.relays[model.DECK_IDS.index(id) + 8] if id in box.deck_ids() else None
+
+
+@named("read block of a module's relay: its state")
+class _(Box):
+    def read_block(self, id):
+        relay = on_deck(self, id)
+        return field(relay.state, 1) if relay else super().read_block(id)
+
+
+@named("read block of a module's relay as of any other")
+class _(Box):
+    def read_block(self, id):
+        relay = on_deck(self, id)
+        return field(relay.state, 1) + bytes(9) if relay else super().read_block(id)
+
+
+@named("read block of an absent relay as of one that is open")
+class _(Box):
+    def read_block(self, id):
+        return bytes(10) if id in model.DECK_IDS and not on_deck(self, id) else super().read_block(id)
+
+
+@named("reading the second deck refused")
+class _(Box):
+    def read_devices(self, conn, fields):
+        answer = super().read_devices(conn, fields)
+        ids = [number(fields.content[k:k + 8]) for k in range(3, len(fields.content), 8)]
+        if any(id in model.DECK_IDS for id in ids):
+            raise Refused(OUT_OF_RANGE)
+        return answer
+
+
+@named("reading a module's relays left out of the answer")
+class _(Box):
+    def read_devices(self, conn, fields):
+        super().read_devices(conn, fields)
+        ids = [fields.content[k:k + 8] for k in range(3, len(fields.content), 8)]
+        ids = [id for id in ids if not on_deck(self, number(id))]
+        return super().read_devices(conn, Fields(b"\x15" + field(len(ids), 2) + b"".join(ids), 1))
+
+
+@named("write entry to a module's relay done")
+class _(Box):
+    def write_entry(self, id, block):
+        relay = on_deck(self, id)
+        return self.write_relay(relay, block) if relay else super().write_entry(id, block)
+
+
+@named("write entry to a module's relay done and not counted")
+class _(Box):
+    def write_entry(self, id, block):
+        relay = on_deck(self, id)
+        if relay:
+            self.write_relay(relay, block)
+        return super().write_entry(id, block)
+
+
+@named("write entry to a module's relay counted and not done")
+class _(Box):
+    def write_entry(self, id, block):
+        return on_deck(self, id) is not None or super().write_entry(id, block)
+
+
+@named("write entry of flags 0 to a module's relay counted")
+class _(Box):
+    def write_entry(self, id, block):
+        return on_deck(self, id) is not None and block[:1] == b"\x00" or super().write_entry(id, block)
+
+
+@named("write entry to an absent relay counted")
+class _(Box):
+    def write_entry(self, id, block):
+        return id in model.DECK_IDS and not on_deck(self, id) or super().write_entry(id, block)
+
+
+@named("write entry to the second deck refuses the message")
+class _(Box):
+    def write_devices(self, conn, fields):
+        before = [relay.state for relay in self.relays]
+        self.seen = False
+        answer = super().write_devices(conn, fields)
+        if self.seen and before == [relay.state for relay in self.relays]:
+            raise Refused(OUT_OF_RANGE)
+        return answer
+
+    def write_entry(self, id, block):
+        self.seen |= id in model.DECK_IDS
+        return super().write_entry(id, block)
+
+
+@named("entries after one to the second deck not done")
+class _(Box):
+    def write_devices(self, conn, fields):
+        self.stopped = False
+        return super().write_devices(conn, fields)
+
+    def write_entry(self, id, block):
+        self.stopped |= id in model.DECK_IDS
+        return not self.stopped and super().write_entry(id, block)
+
+
+# The lines.
+
+@named("filling and emptying exchanged")
+class _(Box):
+    def obey(self, name, *words):
+        return super().obey({"fill": "empty", "empty": "fill"}.get(name, name), *words)
+
+
+@named("place above 255 cut")
+class _(Box):
+    def line(self, text):
+        words = text.split(" ")
+        if words[0] in ("fill", "empty") and len(words) > 1 and words[1].isdigit():
+            text = " ".join([words[0], str(int(words[1]) & 0xFF)] + words[2:])
+        return super().line(text)
+
+
+@named("row of a filling not read")
+class _(Box):
+    def obey(self, name, *words):
+        return super().obey(name, *words[:1]) if name == "fill" else super().obey(name, *words)
+
+
+def showing(name, shown):
+    """A box whose state is shown otherwise; `shown` gives a connection's numbers from those that should be."""
+    @named(name)
+    class _(Box):
+        def state(self):
+            before, rest = super().state().split(" N ")
+            connections, queue = rest.split(" P ")
+            said = " ".join(",".join(shown(*numbers.split(","))) for numbers in connections.split(" "))
+            return f"{before} N {said} P {queue}"
+
+
+showing("type 2's mark shown behind strictness", lambda o, r, m, due, got, due2, strict: (o, r, m, due, got, strict, due2))
+showing("type 2's mark shown behind type 1's", lambda o, r, m, due, got, due2, strict: (o, r, m, due, due2, got, strict))
+showing("type 2's mark shown for type 1's", lambda o, r, m, due, got, due2, strict: (o, r, m, due2, got, due2, strict))
+showing("type 2's mark not shown", lambda o, r, m, due, got, due2, strict: (o, r, m, due, got, strict))
+
+
+@named("eight relays shown")
+class _(Box):
+    def state(self):
+        before, rest = super().state().split(" R ")
+        relays, connections = rest.split(" N ")
+        return f"{before} R {' '.join(relays.split(' ')[:8])} N {connections}"
+
+
+@named("masks shown in 8 bits")
+class _(Box):
+    def queue_shown(self):
+        words = super().queue_shown().split(" ")
+        for k, word in enumerate(words):
+            if "," in word:
+                mask, states, left = map(int, word.split(","))
+                words[k] = f"{mask & 0xFF},{states & 0xFF},{left}"
+        return " ".join(words)
+
+
+@named("what was shown in 8 bits")
+class _(Box):
+    def queue_shown(self):
+        shown, was, bits_then = super().queue_shown().rpartition(" was ")
+        return f"{shown} was {int(bits_then) & 0xFF}" if was else bits_then
+
+
+@named("what was shown of all relays")
+class _(Box):
+    def queue_shown(self):
+        shown, was, _ = super().queue_shown().rpartition(" was ")
+        return f"{shown} was {self.remembered}" if was else "0"
+
+
 # -- lines -------------------------------------------------------------------------------------------
 
 @named("lower-case digits let through")
@@ -2708,10 +3923,10 @@ def caught_after(box_class, made):
     events = 0
     for trace in made:
         box = box_class()
-        for line, printed in zip(trace.lines, trace.printed):
-            events += traces.answer_of(line, printed) is not None
+        for index, (line, printed) in enumerate(zip(trace.lines, trace.printed)):
             if box.line(line) != printed:
-                return events
+                return events + traces.events_of(trace, index + 1)
+        events += trace.events
     return None
 
 
@@ -2733,6 +3948,8 @@ def main():
     start = time.process_time()
     made = list(traces.many(options.seed, options.events, options.length))
     events = sum(trace.events for trace in made)
+    for name in ("crc16", "numbers", "piece_of"):               # the same lines are read for every fault
+        setattr(model, name, functools.cache(getattr(model, name)))
     free = []
     for name, box_class in MUTANTS.items():
         after = caught_after(box_class, made)

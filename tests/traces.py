@@ -29,6 +29,11 @@ def answer_of(line, printed):
     return int(first) if first.isdigit() else None
 
 
+def events_of(trace, lines):
+    """How many events a trace has in so many lines."""
+    return sum(answer_of(line, printed) is not None for line, printed in zip(trace.lines[:lines], trace.printed))
+
+
 def framed(content, sent=None, length=None):
     """A frame, right unless another checksum or length is given."""
     sent = crc16(content) if sent is None else sent
@@ -281,7 +286,8 @@ class Maker:
             self.say(f"level {k} {1 - self.box.inputs[k - 1].level}")
 
     def do_pass(self):
-        self.say(f"pass {self.some_ms()}{self.row(6)}")
+        ms = self.some_ms()
+        self.say(f"pass {ms}{self.row(6 if ms else 2)}")
 
     def some_ms(self):
         """Mostly small; where a pulse runs, or a usage towards its setpoint, often just to it."""
@@ -309,11 +315,11 @@ class Maker:
 
     def do_place(self):
         """Filled or emptied; sometimes again, sometimes a place that there is not."""
-        chance, place = self.rng.randrange(10), self.pick(*PLACES)
+        chance, place = self.rng.randrange(4), self.pick(*PLACES)
         if chance == 0:
-            self.say(f"{self.pick('fill', 'empty')} {self.bad_place()}{self.row(4)}")
+            self.say(f"{self.pick('fill', 'empty')} {self.bad_place()}{self.row(3)}")
         else:
-            self.say(f"{self.turned(place) if chance > 2 else self.again(place)} {place}{self.row(6)}")
+            self.say(f"{self.again(place) if chance == 1 else self.turned(place)} {place}{self.row(3)}")
 
     def turned(self, place):
         """What changes the place."""
@@ -324,7 +330,7 @@ class Maker:
         return "fill" if place in self.box.filled else "empty"
 
     def bad_place(self):
-        return self.pick(0, 0, 3, 3, 3, 4, 5, 9, 13, 127, 128, 129, 130, 254, 255, self.rng.randrange(3, 256))
+        return self.pick(0, 0, 0, 3, 3, 3, 4, 5, 129, 130, 255, self.rng.randrange(3, 256))
 
     def do_collect(self):
         c = self.rng.randrange(4) if self.one_in(6) else self.connection()
@@ -341,6 +347,9 @@ class Maker:
             digits = framed(self.request_content()).hex().upper()
             spoilt = self.pick(digits.replace("F", "f").replace("A", "a") + "ff", digits[:-1], digits + "G0", digits + "+")
             self.say(f"bytes {self.connection()} 4096 {spoilt}")
+        elif self.one_in(12):
+            name, top = self.pick(("fill", 256), ("empty", 256), ("pass", TOP32 + 1))
+            self.say(f"{name} {top + self.pick(0, 1, 2)}")
         elif self.one_in(6):
             line = ["power"] + [str(n) for n in self.settings()]
             spoil = self.pick("drop", "add", "switch", "large", "word")
@@ -485,7 +494,7 @@ class Maker:
         return framed(b"", self.pick(0xFFFF, 0xFFFF, 0x0000, 0x0000, 0x0001, 0xFFFE, 0x00FF, self.rng.randrange(65536)))
 
     def wrong_type(self):
-        kind = self.rng.choice(WRONG_TYPES)
+        kind = self.pick(1, 2) if self.one_in(5) else self.rng.choice(WRONG_TYPES)
         rest = self.weighted(self.CONTENTS)(self)[1:] if self.one_in(2) else self.rng.randbytes(self.rng.randrange(20))
         content = bytes([kind]) + rest
         return framed(content, self.checksum(content))
@@ -553,7 +562,7 @@ class Maker:
 
     def block_command(self):
         """Seldom in 000's layout for 16 relays."""
-        if self.one_in(40):
+        if self.one_in(25):
             return b"\x0A\x0A" + self.rng.randbytes(4)
         mask = self.pick(0, 1, 0x06, 0x80, 0xFF, self.rng.randrange(256), self.rng.randrange(256))
         now = self.states()
@@ -966,9 +975,9 @@ class Maker:
     def more_than_full(self, c):
         """A right pulse, or one whose duration, channel, length or action is wrong: judged before the full queue."""
         right = self.right_pulse(self.duration())
-        self.send(c, self.pick(right, right, right, self.pulse_content(), right[:4] + bytes(4),
-                               b"\x0A\x06" + field(self.pick(0, 9, 12, 13, 16, 17, 257), 2) + right[4:], right[:7], right + b"\x00",
-                               b"\x0A\x04" + right[2:]))
+        self.send(c, self.pick(right, right, right, self.pulse_content(), right[:4] + bytes(4), right[:7], right + b"\x00",
+                               b"\x0A\x06" + field(self.pick(0, 9, 17, 257), 2) + right[4:],
+                               b"\x0A\x06" + field(self.of_deck(), 2) + right[4:], b"\x0A\x04" + right[2:]))
 
     def scene_byte_by_byte(self, c):
         """A message in pieces of one byte.  Its content holds 0x01 and 0x06 where it can."""
@@ -989,12 +998,14 @@ class Maker:
             if (place in places) != (place in self.box.filled):
                 self.say(f"{self.turned(place)} {place}")
 
-    def some_places(self):
-        return self.pick((1,), (2,), (1, 2))
+    def of_deck(self, *places):
+        """A relay of the second deck, of these places if any are given; the first and the last of a place rather more."""
+        channels = PLACES[self.pick(*places or PLACES)]
+        return self.pick(channels[0], channels[-1], self.rng.choice(channels))
 
-    def of_module(self, place):
-        """A relay of the module that is there."""
-        return self.rng.choice(PLACES[place])
+    def work(self, c, action, channel, duration=None):
+        """A command to one channel, with a duration if it is given one."""
+        self.send(c, b"\x0A" + bytes([action]) + field(channel, 2) + (b"" if duration is None else field(duration, 4)))
 
     def look(self, c):
         """What is so and due."""
@@ -1002,73 +1013,84 @@ class Maker:
 
     def scene_places(self, c):
         """With nothing due, places are filled and emptied, also again, and others, and with short rows."""
-        for _ in range(self.pick(2, 3, 4)):
+        for _ in range(self.pick(2, 3)):
             self.say(f"collect {c} 4096")
-            self.do_place()
+            for _ in range(self.pick(1, 2, 3)):
+                self.do_place()
             self.look(c)
 
     def scene_channels(self, c):
-        """Channels on both sides of an edge, for actions that go so far and for such as do not."""
+        """Channels on both sides of an edge, or one of them again and again, for actions that go so far and for such as do not."""
         if self.one_in(2):
             self.fill_just(*self.pick((), (1,), (2,), (1, 2)))
+        same = self.pick(None, self.of_deck(*self.box.filled))
         for _ in range(self.pick(3, 4, 5)):
-            action, channel = self.pick(1, 2, 3, 3, 5, 6, 8, 9), self.pick(8, 9, 9, 10, 12, 12, 13, 13, 15, 16, 16, 17)
-            self.send(c, b"\x0A" + bytes([action]) + field(channel, 2) + (field(self.duration(), 4) if action == 6 else b""))
+            action = self.pick(1, 1, 2, 2, 3, 5, 6, 8, 9)
+            self.work(c, action, same or self.pick(8, 9, 12, 13, 16, 17), self.duration() if action == 6 else None)
         self.look(c)
 
     def scene_removed(self, c):
-        """Relays of both decks closed or not, then a place emptied, beside another that is filled or not, and filled again."""
+        """Relays of some places closed, then a place emptied, beside another that is filled or not, and filled again."""
         place = self.pick(*PLACES)
-        self.fill_just(*self.pick((place,), (1, 2)))
-        for _ in range(self.rng.randrange(4)):
-            self.send(c, b"\x0A\x01" + field(self.pick(self.relay(), self.of_module(place)), 2))
-        if not self.one_in(4):
-            self.say(f"collect {c} 4096")
-        self.say(f"empty {place}{self.row(6)}")
-        self.look(c)
+        self.fill_just(*self.pick((place,), (1, 2), (1, 2)))
+        one, other, any = self.of_deck(place), self.of_deck(3 - place), self.relay()
+        for channel in self.pick((), (one,), (other,), (one, other), (one, other, any)):
+            self.work(c, 1, channel)
+        self.say(f"collect {c} 4096")
+        if self.one_in(3):
+            self.say(f"fill {place}")
+            self.look(c)
+        for _ in range(self.pick(1, 1, 2)):
+            self.say(f"empty {place}{self.row(6)}")
+            self.look(c)
         self.say(f"fill {place}{self.row(6)}")
-        self.send(c, self.pick(b"\x05\x00\x01", b"\x0A\x03" + field(self.of_module(place), 2)))
+        if self.one_in(2):
+            self.work(c, 3, self.of_deck(place))
         self.look(c)
 
     def scene_pulsed_and_removed(self, c):
-        """Pulses of a module's relays and of others; in the middle of them the module goes, and perhaps comes back."""
+        """Pulses of modules' relays and of others; in the middle of them a module goes, and perhaps comes back."""
         place = self.pick(*PLACES)
-        self.fill_just(*self.pick((place,), (1, 2)))
-        for _ in range(self.rng.randrange(3)):
-            self.send(c, b"\x0A\x03" + field(self.of_module(place), 2))
-        if self.one_in(2) and self.box.queue:
+        self.fill_just(*self.pick((place,), (1, 2), (1, 2)))
+        channels = [self.of_deck(place), self.pick(12, 13, self.of_deck(*self.box.filled)), self.of_deck(place)]
+        if self.one_in(2):
+            self.work(c, 1, channels[0])
+        if self.box.queue and not self.one_in(3):
             self.say(f"pass {min(sum(self.lefts()), TOP32)}")
-        for _ in range(self.pick(1, 2, 3)):
-            of_module = b"\x0A\x06" + field(self.of_module(place), 2) + field(self.pick(1, 2, 3, 9, self.rng.randrange(1, 2000)), 4)
-            self.send(c, self.pick(of_module, of_module, self.right_pulse(self.pick(1, 2, 7))))
-        if self.box.queue and self.one_in(2):
+        for channel in channels[:self.pick(1, 2, 2, 3)]:
+            if self.one_in(4):
+                self.send(c, self.right_pulse(self.pick(1, 2, 7)))
+            self.work(c, 6, channel, self.pick(1, 3, 9, self.rng.randrange(1, 2000)))
+        if self.box.queue and not self.one_in(3):
             self.say(f"pass {self.rng.randrange(min(self.box.left, TOP32))}")
-        if self.one_in(3):
-            self.say(f"collect {c} 4096")
+        if self.one_in(2):
+            self.say("state")
         self.say(f"empty {place}{self.row(6)}")
-        self.look(c)
+        self.say("state")
         if self.one_in(2):
             self.say(f"fill {place}")
-            self.send(c, b"\x0A\x03" + field(self.of_module(place), 2))
-        for _ in range(self.pick(1, 2)):
-            if self.box.queue:
-                self.over_the_end(c, self.box.left)
+            self.work(c, 3, channels[0])
+        if self.box.queue:
+            self.over_the_end(c, self.box.left)
 
     def scene_two_marks(self, c):
-        """Each of the two Monitor messages due or not; then a request, and they are collected."""
+        """Each of the two Monitor messages due or not; then requests, and they are collected."""
         first, second = self.pick((0, 0), (0, 1), (1, 0), (1, 1))
         self.send(c, b"\x05\x00\x05")
-        self.fill_just(*() if first and not second else self.some_places())
+        self.fill_just(*() if first and not second else self.pick((1,), (2,), (1, 2)))
         self.say(f"collect {c} 4096")
         if first:
-            k = self.rng.randrange(8)
-            self.say(f"level {k + 1} {1 - self.box.inputs[k].level}")
+            k = self.pick(1, 8, self.rng.randrange(1, 9))
+            if self.one_in(2):
+                self.say(f"level {k} {1 - self.box.inputs[k - 1].level}")
+            else:
+                self.work(c, 3, k)
             if not second:
                 self.fill_just(*self.pick((), (1,), (2,), (1, 2)))
         elif second:
-            self.send(c, b"\x0A\x03" + field(self.rng.choice(self.box.deck()), 2))
-        for _ in range(self.pick(1, 1, 2)):
-            self.send(c, b"\x05\x00" + bytes([self.pick(0, 1, 1, 4, 5)]))
+            self.work(c, 3, self.of_deck(*self.box.filled))
+        for _ in range(self.pick(0, 1, 2)):
+            self.send(c, b"\x05\x00" + bytes([self.pick(0, 1, 1, 2, 4, 4, 5)]))
             if self.one_in(2):
                 self.say("state")
         self.say(f"collect {c} 4096")
@@ -1088,7 +1110,7 @@ class Maker:
         self.fill_just(*self.pick((), (1,), (2,), (1, 2)))
         self.send(c, b"\x1A" + bytes([self.pick(1, 1, 2, 3)]))
         if self.one_in(2):
-            ids = [self.pick(self.rng.choice(DECK_IDS), self.rng.choice(DECK_IDS), self.an_id()) for _ in range(self.pick(1, 2, 3))]
+            ids = [self.pick(self.rng.choice(DECK_IDS), self.an_id()) for _ in range(self.pick(1, 2, 3))]
             self.send(c, b"\x15" + field(len(ids), 2) + b"".join(field(id, 8) for id in ids))
         else:
             id, block = field(self.rng.choice(DECK_IDS), 8), self.pick(b"\x01\x01", b"\x00", b"\x02", self.relay_block())
@@ -1114,7 +1136,7 @@ class Maker:
               scene_deck_ids)
 
     STEPS = ((do_talk, 70), (do_level, 7), (do_pass, 5), (do_collect, 7), (do_open, 6), (do_close, 2.5), (do_state, 5),
-             (do_power, .4), (do_bad_line, 2), (do_place, 2), (do_scene, 8.5))
+             (do_power, .4), (do_bad_line, 2), (do_place, 2.5), (do_scene, 8.5))
 
     def make(self, events):
         if not self.one_in(5):                                  # the tool starts as after `power`

@@ -68,12 +68,7 @@ fn edit_input(board: &mut [[u64; 8]; ROWS], channel: u16, edit: InputEdit) -> Ch
 }
 
 // Every edit of one relay, in the same way; whether it may be edited is told.
-fn edit_relay(
-    board: &mut [[u64; 8]; ROWS],
-    there: bool,
-    channel: u16,
-    edit: RelayEdit,
-) -> Changed
+fn edit_relay(board: &mut [[u64; 8]; ROWS], there: bool, channel: u16, edit: RelayEdit) -> Changed
     ensures { λ r. ⌜ Makes (onRelay there (relayEdited edit) channel (now (board .entry))) (now (board .exit)) r ⌝ }
 {
     if !there {

@@ -1,10 +1,11 @@
 -- Each beginning and each end is a change of its own.
---     begins-due, ends-due   02, M-100, 3: where a relay's state really changes, Monitor is due on every connection that watches
+--     begins-due, ends-due   02, M-100, 3, and M-102, 4 and 6: where a relay's state really changes, every connection that watches is told: of
+--                            one of the first eight by the Monitor message's mark, and, a module being present, of any by the External one's
 --     own-change             02, M-100, 3: so behind an end that changed a state, also where the next beginning changes it back
 --     next-change            02, M-100, 3: and behind a beginning that did, also where the end before it changed nothing
 --     no-change              02, M-100, 3: where no state changes, the connections are as they were
 use mathlib.Core.Path.{_≡_, refl, sym, ap, _∙_}
-use mathlib.Core.Bool.{Bool, true, false, true≢false, cond, _&&_, _||_}
+use mathlib.Core.Bool.{Bool, true, false, true≢false, cond, not, _&&_, _||_}
 use mathlib.Core.List.{List, []}
 use Prim.Native.Nat.{ℕ, zero, suc, _+_, _%_, _^_, _<_, _≤_}
 use native.Mathlib.Omega.{arith}
@@ -17,21 +18,33 @@ use Rattle.laws.proofs.Tests.{by-cases}
 use Rattle.rows.specs.declared.Queue.{Queue}
 use Rattle.rows.specs.declared.Line.{Line}
 use Rattle.rows.specs.declared.Relay.{Relay}
-use Rattle.rows.specs.Rows.{lineIn, relayIn, blankRelay}
-use Rattle.rows.specs.Places.{Board, isChannel, rowAt, relayAt, lineAt, firstRelay, relayPlace, clockRow, firstLine, linePlace, queueRow, queueOf, putQueue, onRows}
+use Rattle.rows.specs.Rows.{lineIn, dueWords, relayIn, blankRelay}
+use Rattle.rows.specs.Places.{Board, isChannel, isRelay, rowAt, relayAt, lineAt, firstRelay, relayPlace, clockRow, firstLine, linePlace, queueRow, queueOf, putQueue, onRows}
+use Rattle.rows.proofs.Channel.{channel}
 use Rattle.rows.proofs.Range.{beyond}
 use Rattle.laws.specs.Bits.{bitOf}
-use Rattle.changes.specs.Commands.{masked, blocked, blockMoves, blockedRow, blockOf}
+use Rattle.changes.specs.Commands.{masked, blocked, blockMoves, blockMoved, blockedRow, blockOf}
+use Rattle.changes.specs.Answers.{differ}
 use Rattle.changes.proofs.Making.{differ-same}
-use Rattle.marks.specs.Marks.{withDue, watches, markedRow, marked}
+use Rattle.modules.specs.declared.Moved.{Moved}
+use Rattle.modules.specs.Modules.{filled, placeRow, hasModule, movedAt}
+use Rattle.marks.specs.Marks.{withMarks, watches, markedRow, anyMoved, marked}
 use Rattle.ring.specs.declared.Pulse.{Pulse}
 use Rattle.pulses.specs.Pulses.{statesOf, switched, beginning, begun, ended, turned}
 use Rattle.ring.specs.Ring.{runs, popped}
 use Rattle.pulses.proofs.Passing.{no-row}
-use Rattle.queue.specs.Listed.{moved}
+use Rattle.queue.specs.Listed.{moved, Told}
 use Rattle.queue.proofs.Relays.{rows-length, among, switched-masked, switched-unmasked, relay-put, put-length, ended-length}
 
 -- ---- any of them
+
+or-true : (a : Bool) → a || true ≡ true
+or-true true = refl
+or-true false = refl
+
+and-false : (a : Bool) → a && false ≡ false
+and-false true = refl
+and-false false = refl
 
 any-one : (n k : ℕ) (p : ℕ → Bool) → k < n → p k ≡ true → anyBelow n p ≡ true
 unfolding anyBelow
@@ -40,10 +53,6 @@ any-one (suc n) k p h e =
     by-cases (ltb k n)
     (λ t. rw (any-one n k p (ltb-true k n t) e))
     (λ f. let s : n ≡ k = omega (arith, ltb-false k n f) in rw (s, e) (or-true (anyBelow k p)))
-  where
-    or-true : (a : Bool) → a || true ≡ true
-    or-true true = refl
-    or-true false = refl
 
 none-of : (n : ℕ) (p : ℕ → Bool) → ((k : ℕ) → k < n → p k ≡ false) → anyBelow n p ≡ false
 unfolding anyBelow
@@ -52,64 +61,103 @@ none-of (suc n) p f = rw (none-of n p (λ k h. f k (omega arith)), f n (omega ar
 
 -- ---- the marks
 
--- a connection's row, where something changed
-line-in : (row : List ℕ) → lineIn (markedRow row) ≡ cond (watches (lineIn row)) (withDue true (lineIn row)) (lineIn row)
-unfolding markedRow
-line-in row =
-    by-cases (watches (lineIn row))
-    (λ t. rw t)
-    (λ f. rw f)
+-- what a change makes of a connection that watches: marks are set, and none is taken back
+abbrev noting : Bool → Bool → Line → Line
+noting due external l = withMarks (cond due true (l .due)) (cond external true (l .external)) l
 
-row-marked : (c : ℕ) (b : Board) → c < 4 → lineIn (rowAt (linePlace c) (onRows firstLine 4 (λ _. markedRow) b)) ≡ lineIn (markedRow (rowAt (linePlace c) b))
+-- a connection's row, where something changed
+line-in : (due external : Bool) (row : List ℕ)
+    → lineIn (markedRow due external row) ≡ cond (watches (lineIn row)) (noting due external (lineIn row)) (lineIn row)
 unfolding markedRow
-row-marked c b h =
+line-in due external row =
+    by-cases (watches (lineIn row))
+    (λ t. rw t (go due external))
+    (λ f. rw f)
+  where
+    go : (due external : Bool) → lineIn (dueWords due external row) ≡ noting due external (lineIn row)
+    go true true = refl
+    go true false = refl
+    go false true = refl
+    go false false = refl
+
+row-marked : (due external : Bool) (c : ℕ) (b : Board) → c < 4
+    → lineIn (rowAt (linePlace c) (onRows firstLine 4 (λ _. markedRow due external) b)) ≡ lineIn (markedRow due external (rowAt (linePlace c) b))
+unfolding markedRow
+row-marked due external c b h =
+    let f : ℕ → List ℕ → List ℕ = λ _. markedRow due external in
     let e : linePlace c ≡ firstLine + c = omega arith in
     by-cases (ltb (linePlace c) (length b))
-    (λ t. rw e (ap lineIn (among firstLine 4 c (λ _. markedRow) b h (omega (arith, ltb-true (linePlace c) (length b) t)))))
-    (λ f. let l = ltb-false (linePlace c) (length b) f in
-    rw (no-row (linePlace c) (onRows firstLine 4 (λ _. markedRow) b) (rw (rows-length firstLine 4 (λ _. markedRow) b) l), no-row (linePlace c) b l))
+    (λ t. rw e (ap lineIn (among firstLine 4 c f b h (omega (arith, ltb-true (linePlace c) (length b) t)))))
+    (λ n. let l = ltb-false (linePlace c) (length b) n in
+    rw (no-row (linePlace c) (onRows firstLine 4 f b) (rw (rows-length firstLine 4 f b) l), no-row (linePlace c) b l)
+    (nothing due external))
+  where
+    -- a row that is not there is no connection's that watches
+    nothing : (due external : Bool) → lineIn [] ≡ lineIn (markedRow due external [])
+    nothing due external = refl
 
-line-marked : (changed : Bool) (c : ℕ) (b : Board) → c < 4
-    → lineAt c (marked changed b) ≡ cond (changed && watches (lineAt c b)) (withDue true (lineAt c b)) (lineAt c b)
+line-marked : (m : Moved) (c : ℕ) (b : Board) → c < 4
+    → lineAt c (marked m b) ≡ cond (anyMoved m && watches (lineAt c b)) (noting (m .inner) (hasModule b) (lineAt c b)) (lineAt c b)
 unfolding marked lineAt
-line-marked true c b h = rw (lt-ltb c 4 h) (row-marked c b h ∙ line-in (rowAt (linePlace c) b))
-line-marked false c b h = refl
+line-marked m c b h =
+    by-cases (anyMoved m)
+    (λ t. rw (t, lt-ltb c 4 h) (row-marked (m .inner) (hasModule b) c b h ∙ line-in (m .inner) (hasModule b) (rowAt (linePlace c) b)))
+    (λ f. rw f)
 
 -- whether a switching changes something
 abbrev moves : ℕ → ℕ → Board → Bool
-moves mask states b = anyBelow 8 (blockMoves mask states b)
+moves mask states b = anyMoved (blockMoved mask states b)
+
+-- a switching leaves the places
+module-blocked : (mask states : ℕ) (b : Board) → hasModule (onRows firstRelay 16 (blockedRow mask states) b) ≡ hasModule b
+unfolding filled
+module-blocked mask states b =
+    rw (beyond firstRelay 16 (placeRow 1) (blockedRow mask states) b (omega arith), beyond firstRelay 16 (placeRow 2) (blockedRow mask states) b (omega arith))
 
 line-switched : (mask states c : ℕ) (b : Board) → c < 4
-    → lineAt c (switched mask states b) ≡ cond (moves mask states b && watches (lineAt c b)) (withDue true (lineAt c b)) (lineAt c b)
+    → lineAt c (switched mask states b)
+    ≡ cond (moves mask states b && watches (lineAt c b)) (noting (blockMoved mask states b .inner) (hasModule b) (lineAt c b)) (lineAt c b)
 unfolding switched blockOf lineAt
 line-switched mask states c b h =
-    let e : rowAt (linePlace c) (onRows firstRelay 8 (blockedRow mask states) b) ≡ rowAt (linePlace c) b =
-    beyond firstRelay 8 (linePlace c) (blockedRow mask states) b (omega arith) in
-    rw e at (line-marked (moves mask states b) c (onRows firstRelay 8 (blockedRow mask states) b) h)
+    let z : Board = onRows firstRelay 16 (blockedRow mask states) b in
+    let e : rowAt (linePlace c) z ≡ rowAt (linePlace c) b = beyond firstRelay 16 (linePlace c) (blockedRow mask states) b (omega arith) in
+    rw (e, module-blocked mask states b) at (line-marked (blockMoved mask states b) c z h)
+
+-- and so do the marks
+module-marked : (m : Moved) (b : Board) → hasModule (marked m b) ≡ hasModule b
+unfolding filled marked
+module-marked m b =
+    let f : ℕ → List ℕ → List ℕ = λ _. markedRow (m .inner) (hasModule b) in
+    by-cases (anyMoved m)
+    (λ t. rw (t, beyond firstLine 4 (placeRow 1) f b (omega arith), beyond firstLine 4 (placeRow 2) f b (omega arith)))
+    (λ n. rw n)
 
 line-put : (q : Queue) (c : ℕ) (b : Board) → c < 4 → lineAt c (putQueue q b) ≡ lineAt c b
 unfolding lineAt putQueue
 line-put q c b h = rw (getD-set-other b queueRow (linePlace c) _ [] (λ e. omega arith))
 
--- a mark that is set stays, a connection that watches goes on watching
-module _ (l : Line) (t : Bool) where
-  due-on : l .due ≡ true → cond t (withDue true l) l .due ≡ true
-  due-on e = go t
-    where
-      go : (t : Bool) → cond t (withDue true l) l .due ≡ true
-      go true = refl
-      go false = e
+module-put : (q : Queue) (b : Board) → hasModule (putQueue q b) ≡ hasModule b
+unfolding filled putQueue
+module-put q b =
+    rw (getD-set-other b queueRow (placeRow 1) _ [] (λ e. omega arith), getD-set-other b queueRow (placeRow 2) _ [] (λ e. omega arith))
 
-  watches-on : watches (cond t (withDue true l) l) ≡ watches l
-  watches-on = go t
+-- a mark that is set stays, a connection that watches goes on watching
+module _ (l : Line) where
+  told-on : (k : ℕ) (b : Board) (t i x : Bool) → Told k b l → Told k b (cond t (noting i x l) l)
+  told-on k b true i x e = record { monitor = λ h. set i (e .monitor h); external = λ h. set x (e .external h) }
     where
-      go : (t : Bool) → watches (cond t (withDue true l) l) ≡ watches l
-      go true = refl
-      go false = refl
+      set : {was : Bool} (t : Bool) → was ≡ true → cond t true was ≡ true
+      set true e = refl
+      set false e = e
+  told-on k b false i x e = e
+
+  watches-on : (t i x : Bool) → watches (cond t (noting i x l) l) ≡ watches l
+  watches-on true i x = refl
+  watches-on false i x = refl
 
 -- ---- a switching that changes a relay's state is seen
 
-relay-blocked : (mask states k : ℕ) (b : Board) → k < 8 → clockRow ≤ length b
+relay-blocked : (mask states k : ℕ) (b : Board) → k < 16 → clockRow ≤ length b
     → relayAt (k + 1) (switched mask states b) .closed ≡ blocked mask states k (relayAt (k + 1) b) .closed
 unfolding masked relayAt
 relay-blocked mask states k b h l =
@@ -118,76 +166,119 @@ relay-blocked mask states k b h l =
     (λ f. rw f (ap (λ (r : Relay). r .closed) (same-row k b (switched mask states b) (switched-unmasked mask states b k h f))))
   where
     same-row : (k : ℕ) (b z : Board) → rowAt (relayPlace (k + 1)) z ≡ rowAt (relayPlace (k + 1)) b → relayAt (k + 1) z ≡ relayAt (k + 1) b
-    same-row k b z e = ap (λ (row : List ℕ). cond (isChannel (k + 1)) (relayIn row) blankRelay) e
+    same-row k b z e = ap (λ (row : List ℕ). cond (isRelay (k + 1)) (relayIn row) blankRelay) e
+
+-- a relay that moves does so on one of the decks, and one that does not on none
+module _ (n : ℕ) (moved : ℕ → Bool) where
+  abbrev onDecks : Moved
+  onDecks = record { inner = anyBelow n (λ k. movedAt (k + 1) (moved k) .inner); outer = anyBelow n (λ k. movedAt (k + 1) (moved k) .outer) }
+
+  moved-inner : (k : ℕ) → k < n → k < 8 → moved k ≡ true → onDecks .inner ≡ true
+  unfolding movedAt
+  moved-inner k h o m = any-one n k _ h (rw (channel k o, m))
+
+  moved-any : (k : ℕ) → k < n → moved k ≡ true → anyMoved onDecks ≡ true
+  unfolding movedAt
+  moved-any k h m =
+      by-cases (isChannel (k + 1))
+      (λ t. let e : anyBelow n (λ j. isChannel (j + 1) && moved j) ≡ true = any-one n k _ h (rw (t, m)) in rw e)
+      (λ f. let e : anyBelow n (λ j. not (isChannel (j + 1)) && moved j) ≡ true = any-one n k _ h (rw (f, m)) in rw e (or-true (onDecks .inner)))
+
+  moved-none : ((k : ℕ) → k < n → moved k ≡ false) → anyMoved onDecks ≡ false
+  unfolding movedAt
+  moved-none f =
+      let e : anyBelow n (λ j. isChannel (j + 1) && moved j) ≡ false =
+      none-of n (λ j. isChannel (j + 1) && moved j) (λ k h. rw (f k h) (and-false (isChannel (k + 1)))) in
+      let o : anyBelow n (λ j. not (isChannel (j + 1)) && moved j) ≡ false =
+      none-of n (λ j. not (isChannel (j + 1)) && moved j) (λ k h. rw (f k h) (and-false (not (isChannel (k + 1))))) in
+      rw (e, o)
 
 -- a switching of a board whose queue alone was stored before
 module _ (mask states : ℕ) (q : Queue) (b : Board) where
   abbrev after : Board
   after = switched mask states (putQueue q b)
 
-  line-after : (c : ℕ) → c < 4
-      → lineAt c after ≡ cond (moves mask states (putQueue q b) && watches (lineAt c b)) (withDue true (lineAt c b)) (lineAt c b)
-  line-after c h = rw (line-put q c b h) at (line-switched mask states c (putQueue q b) h)
+  -- whether the relay at place k moves
+  abbrev movesAt : ℕ → Bool
+  movesAt k = differ (relayAt (k + 1) (putQueue q b) .closed) (blocked mask states k (relayAt (k + 1) (putQueue q b)) .closed)
 
-  due-kept : (c : ℕ) → c < 4 → lineAt c b .due ≡ true → lineAt c after .due ≡ true
-  due-kept c h e = ap (λ (l : Line). l .due) (line-after c h) ∙ due-on (lineAt c b) (moves mask states (putQueue q b) && watches (lineAt c b)) e
+  line-after : (c : ℕ) → c < 4
+      → lineAt c after
+      ≡ cond (moves mask states (putQueue q b) && watches (lineAt c b)) (noting (blockMoved mask states (putQueue q b) .inner) (hasModule b) (lineAt c b))
+      (lineAt c b)
+  line-after c h = rw (line-put q c b h, module-put q b) at (line-switched mask states c (putQueue q b) h)
+
+  told-kept : (c k : ℕ) (z : Board) → c < 4 → Told k z (lineAt c b) → Told k z (lineAt c after)
+  told-kept c k z h e = rw (line-after c h) (told-on (lineAt c b) k z (moves mask states (putQueue q b) && watches (lineAt c b)) (blockMoved mask states (putQueue q b) .inner) (hasModule b) e)
 
   watches-kept : (c : ℕ) → c < 4 → watches (lineAt c after) ≡ watches (lineAt c b)
-  watches-kept c h = ap watches (line-after c h) ∙ watches-on (lineAt c b) (moves mask states (putQueue q b) && watches (lineAt c b))
+  watches-kept c h = ap watches (line-after c h)
+      ∙ watches-on (lineAt c b) (moves mask states (putQueue q b) && watches (lineAt c b)) (blockMoved mask states (putQueue q b) .inner) (hasModule b)
 
-  moved-is : (k : ℕ) → k < 8 → clockRow ≤ length b → moved (k + 1) b after ≡ blockMoves mask states (putQueue q b) k
+  moved-is : (k : ℕ) → k < 16 → clockRow ≤ length b → moved (k + 1) b after ≡ movesAt k
   moved-is k h l = rw (relay-blocked mask states k (putQueue q b) h (rw (put-length q b) l), relay-put q k b h)
 
-  due-after : (c k : ℕ) → c < 4 → k < 8 → clockRow ≤ length b → watches (lineAt c b) ≡ true → moved (k + 1) b after ≡ true → lineAt c after .due ≡ true
-  due-after c k h j l w m =
-      let a : moves mask states (putQueue q b) ≡ true = any-one 8 k (blockMoves mask states (putQueue q b)) j (sym (moved-is k j l) ∙ m) in
+  told-after : (c k : ℕ) → c < 4 → k < 16 → clockRow ≤ length b → watches (lineAt c b) ≡ true → moved (k + 1) b after ≡ true → Told k b (lineAt c after)
+  told-after c k h j l w m =
+      let e : movesAt k ≡ true = sym (moved-is k j l) ∙ m in
+      let a : moves mask states (putQueue q b) ≡ true = moved-any 16 movesAt k j e in
       rw (line-after c h, a, w)
+      (record { monitor = λ o. rw (moved-inner 16 movesAt k j o e); external = λ x. rw x })
 
-  still-after : (c : ℕ) → c < 4 → clockRow ≤ length b → ((k : ℕ) → k < 8 → moved (k + 1) b after ≡ false) → lineAt c after ≡ lineAt c b
+  still-after : (c : ℕ) → c < 4 → clockRow ≤ length b → ((k : ℕ) → k < 16 → moved (k + 1) b after ≡ false) → lineAt c after ≡ lineAt c b
   still-after c h l f =
-      let a : moves mask states (putQueue q b) ≡ false = none-of 8 (blockMoves mask states (putQueue q b)) (λ k j. sym (moved-is k j l) ∙ f k j) in
+      let a : moves mask states (putQueue q b) ≡ false = moved-none 16 movesAt (λ k j. sym (moved-is k j l) ∙ f k j) in
       rw (line-after c h, a)
+
+  module-after : hasModule after ≡ hasModule b
+  unfolding switched blockOf
+  module-after = module-marked _ _ ∙ module-blocked mask states (putQueue q b) ∙ module-put q b
 
 -- ---- a beginning and an end
 
 module _ (p : Pulse) (b : Board) (c : ℕ) (h : c < 4) where
-  due-stays : lineAt c b .due ≡ true → lineAt c (begun p b) .due ≡ true
+  told-stays : (k : ℕ) (z : Board) → Told k z (lineAt c b) → Told k z (lineAt c (begun p b))
   unfolding begun
-  due-stays e = due-kept (p .mask) (p .states) (beginning p (statesOf b) (queueOf b)) b c h e
+  told-stays k z e = told-kept (p .mask) (p .states) (beginning p (statesOf b) (queueOf b)) b c k z h e
 
   watches-stays : watches (lineAt c (ended p b)) ≡ watches (lineAt c b)
   unfolding ended
   watches-stays = watches-kept (p .mask) (queueOf b .remembered % 2 ^ 16) (popped (queueOf b)) b c h
 
+  module-stays : hasModule (ended p b) ≡ hasModule b
+  unfolding ended
+  module-stays = module-after (p .mask) (queueOf b .remembered % 2 ^ 16) (popped (queueOf b)) b
+
   module _ (l : clockRow ≤ length b) where
-    pub begins-due : (k : ℕ) → k < 8 → watches (lineAt c b) ≡ true → moved (k + 1) b (begun p b) ≡ true → lineAt c (begun p b) .due ≡ true
+    pub begins-due : (k : ℕ) → k < 16 → watches (lineAt c b) ≡ true → moved (k + 1) b (begun p b) ≡ true → Told k b (lineAt c (begun p b))
     unfolding begun
-    begins-due k j w m = due-after (p .mask) (p .states) (beginning p (statesOf b) (queueOf b)) b c k h j l w m
+    begins-due k j w m = told-after (p .mask) (p .states) (beginning p (statesOf b) (queueOf b)) b c k h j l w m
 
-    pub ends-due : (k : ℕ) → k < 8 → watches (lineAt c b) ≡ true → moved (k + 1) b (ended p b) ≡ true → lineAt c (ended p b) .due ≡ true
+    pub ends-due : (k : ℕ) → k < 16 → watches (lineAt c b) ≡ true → moved (k + 1) b (ended p b) ≡ true → Told k b (lineAt c (ended p b))
     unfolding ended
-    ends-due k j w m = due-after (p .mask) (queueOf b .remembered % 2 ^ 16) (popped (queueOf b)) b c k h j l w m
+    ends-due k j w m = told-after (p .mask) (queueOf b .remembered % 2 ^ 16) (popped (queueOf b)) b c k h j l w m
 
-    pub no-change : (((k : ℕ) → k < 8 → moved (k + 1) b (begun p b) ≡ false) → lineAt c (begun p b) ≡ lineAt c b)
-        × (((k : ℕ) → k < 8 → moved (k + 1) b (ended p b) ≡ false) → lineAt c (ended p b) ≡ lineAt c b)
+    pub no-change : (((k : ℕ) → k < 16 → moved (k + 1) b (begun p b) ≡ false) → lineAt c (begun p b) ≡ lineAt c b)
+        × (((k : ℕ) → k < 16 → moved (k + 1) b (ended p b) ≡ false) → lineAt c (ended p b) ≡ lineAt c b)
     unfolding begun ended
     no-change = (
       still-after (p .mask) (p .states) (beginning p (statesOf b) (queueOf b)) b c h l,
       still-after (p .mask) (queueOf b .remembered % 2 ^ 16) (popped (queueOf b)) b c h l,
     )
 
-module _ (p next : Pulse) (b : Board) (c k : ℕ) (h : c < 4) (j : k < 8) (l : clockRow ≤ length b) (w : watches (lineAt c b) ≡ true) where
-  pub own-change : moved (k + 1) b (ended p b) ≡ true → lineAt c (turned p next b) .due ≡ true
+module _ (p next : Pulse) (b : Board) (c k : ℕ) (h : c < 4) (j : k < 16) (l : clockRow ≤ length b) (w : watches (lineAt c b) ≡ true) where
+  pub own-change : moved (k + 1) b (ended p b) ≡ true → Told k b (lineAt c (turned p next b))
   unfolding turned
   own-change m =
       let d = ends-due p b c h l k j w m in
       by-cases (runs (queueOf (ended p b)))
-      (λ r. rw r (due-stays next (ended p b) c h d))
+      (λ r. rw r (told-stays next (ended p b) c h k b d))
       (λ r. rw r d)
 
-  pub next-change : moved (k + 1) (ended p b) (turned p next b) ≡ true → lineAt c (turned p next b) .due ≡ true
+  pub next-change : moved (k + 1) (ended p b) (turned p next b) ≡ true → Told k b (lineAt c (turned p next b))
   unfolding turned
   next-change m =
       by-cases (runs (queueOf (ended p b)))
-      (λ r. rw r (begins-due next (ended p b) c h (rw (ended-length p b) l) k j (watches-stays p b c h ∙ w) (rw r at m)))
+      (λ r. let d = begins-due next (ended p b) c h (rw (ended-length p b) l) k j (watches-stays p b c h ∙ w) (rw r at m) in
+      rw r (record { monitor = d .monitor; external = λ x. d .external (module-stays p b c h ∙ x) }))
       (λ r. absurd (true≢false (sym (rw r at m) ∙ differ-same (relayAt (k + 1) (ended p b) .closed))))

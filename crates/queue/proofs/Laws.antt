@@ -33,8 +33,8 @@ use Rattle.laws.specs.Times.{times}
 use Rattle.laws.proofs.Flow.{times-add}
 use Rattle.laws.proofs.Tests.{by-cases, and-left}
 use Rattle.rows.specs.declared.Queue.{Queue}
-use Rattle.rows.specs.Places.{Board, isChannel, relayAt, queueRow, queueOf, putQueue}
-use Rattle.rows.proofs.Channel.{in-range}
+use Rattle.rows.specs.Places.{Board, isRelay, relayAt, queueRow, queueOf, putQueue}
+use Rattle.rows.proofs.Channel.{relay-range}
 use Rattle.rows.specs.Held as held
 use Rattle.laws.specs.Bits.{bitOf}
 use Rattle.tables.specs.Time.{passed}
@@ -70,7 +70,7 @@ first-come row b = (λ d. view-elapsed row d b, λ p h l f. view-pushed p row b 
 
 -- ---- a request
 
-same-states : (n : ℕ) (q : Queue) (b : Board) → n ≤ 8 → statesBelow n (putQueue q b) ≡ statesBelow n b
+same-states : (n : ℕ) (q : Queue) (b : Board) → n ≤ 16 → statesBelow n (putQueue q b) ≡ statesBelow n b
 unfolding statesBelow
 same-states zero q b h = refl
 same-states (suc n) q b h =
@@ -80,13 +80,13 @@ same-states (suc n) q b h =
 module _ (p : Pulse) (b : Board) (h : queueRow < length b) where
   -- the ms left, what is remembered, and each masked relay
   pub accepted-begins : runs (queueOf b) ≡ false → (queueOf (accepted p b) .left ≡ p .duration) × (queueOf (accepted p b) .remembered ≡ statesOf b)
-      × ((k : ℕ) → k < 8 → bitOf (p .mask) k ≡ true → relayAt (k + 1) (accepted p b) ≡ held.switched (bitOf (p .states) k) (relayAt (k + 1) b))
+      × ((k : ℕ) → k < 16 → bitOf (p .mask) k ≡ true → relayAt (k + 1) (accepted p b) ≡ held.switched (bitOf (p .states) k) (relayAt (k + 1) b))
   unfolding accepted
   accepted-begins r =
       let q : Queue = joined p (queueOf b) in
       let e = queue-begins p b h r in (
         ap (λ (x : Queue). x .left) e,
-        ap (λ (x : Queue). x .remembered) e ∙ same-states 8 q b (omega arith),
+        ap (λ (x : Queue). x .remembered) e ∙ same-states 16 q b (omega arith),
         λ k j m. rw r (begins p (putQueue q b) k j (rw (put-length q b) (omega arith)) m ∙ rw (relay-put q k b j)),
       )
 
@@ -266,14 +266,14 @@ one-bit i j =
     (λ t. let l = ltb-true i j t in rw (div-eq-of-lt (pow-lt l)) (sym (ne-eqb j i (λ e. omega arith))))
     (λ g. let e : j ≡ i = omega (arith, ltb-false j i f, ltb-false i j g) in rw e (rw z at (bit-top i 0 true (pow-pos i)) ∙ sym (eq-eqb i i refl))))
 
-pub action-6 : (k ms : ℕ) → isChannel k ≡ true
+pub action-6 : (k ms : ℕ) → isRelay k ≡ true
     → ((j : ℕ) → bitOf (relayPulse k ms .mask) j ≡ eqb (j + 1) k) × (relayPulse k ms .states ≡ relayPulse k ms .mask) × (relayPulse k ms .duration ≡ ms)
 unfolding relayPulse
 action-6 k ms h = (λ j. rw h (one-bit (k - 1) j ∙ shifted j), refl, refl)
   where
     shifted : (j : ℕ) → eqb j (k - 1) ≡ eqb (j + 1) k
     shifted j =
-        let l = in-range k (sym h) refl in
+        let l = relay-range k (sym h) refl in
         by-cases (eqb j (k - 1))
         (λ t. rw (t, eq-eqb (j + 1) k (omega (arith, l, eqb-true j (k - 1) t))))
         (λ f. rw (f, ne-eqb (j + 1) k (λ e. eqb-false j (k - 1) f (omega arith))))
@@ -281,8 +281,8 @@ action-6 k ms h = (λ j. rw h (one-bit (k - 1) j ∙ shifted j), refl, refl)
 pub requests-fit : (ms : ℕ) → ms < 2 ^ 32 → ((k : ℕ) → Fits (relayPulse k ms)) × ((mask states : ℕ) → mask < 256 → states < 256 → Fits (pulseOf mask states ms))
 unfolding relayPulse
 requests-fit ms h = (
-  λ k. by-cases (isChannel k)
-      (λ t. let l = in-range k (sym t) refl in
+  λ k. by-cases (isRelay k)
+      (λ t. let l = relay-range k (sym t) refl in
       let low : 2 ^ (k - 1) < 2 ^ 16 = pow-lt {i = k - 1} {j = 16} (omega (arith, l)) in
       rw t (record { mask = low; states = low; duration = h }))
       (λ f. rw f (record { mask = omega arith; states = omega arith; duration = h })),

@@ -19,15 +19,17 @@ use Rattle.rows.specs.declared.Input.{Input}
 use Rattle.rows.specs.declared.Relay.{Relay}
 use Rattle.rows.specs.declared.Line.{Line}
 use Rattle.rows.specs.Rows.{queueIn, inputWords, relayWords, lineWords}
-use Rattle.rows.specs.Places.{Board, isChannel, isConnection, rowAt, inputPlace, relayPlace, linePlace, inputAt, relayAt, putInput, putRelay, putLine, clockRow, clockSet, firstRelay, firstLine, queueRow, queueOf}
-use Rattle.rows.proofs.Channel.{in-range}
+use Rattle.rows.specs.Places.{Board, isChannel, isRelay, isConnection, rowAt, inputPlace, relayPlace, linePlace, inputAt, relayAt, putInput, putRelay, putLine, clockRow, clockSet, firstRelay, firstLine, queueRow, queueOf, onRows}
+use Rattle.rows.proofs.Channel.{in-range, relay-range}
 use Rattle.rows.proofs.Range.{beyond}
 use Rattle.changes.specs.Answers.{onInput, onRelay}
 use Rattle.changes.specs.Commands.{blockedRow, blockOf}
 use Rattle.changes.specs.Entries.{writeInput, writeRelay}
 use Rattle.changes.specs.Levels.{hasLevel, levelOf}
 use Rattle.edits.specs.Edits.{told, inputWritten, relayWritten, relayFails}
-use Rattle.marks.specs.Marks.{markedRow, marked}
+use Rattle.modules.specs.declared.Moved.{Moved}
+use Rattle.modules.specs.Modules.{hasModule}
+use Rattle.marks.specs.Marks.{markedRow, anyMoved, marked}
 use Rattle.ring.specs.Ring.{runs}
 use Rattle.queue.specs.Meanwhile.{Beside}
 use Rattle.queue.proofs.Relays.{rows-length}
@@ -71,11 +73,12 @@ module _ (z : Board) (r : runs (queueOf z) ≡ true) where
       (λ t. let h = in-range k (sym t) refl in rw t (set-beside (inputPlace k) (inputWords (f (inputAt k z))) (omega (arith, h))))
       (λ n. rw n same-beside)
 
-  pub relay-beside : (f : Relay → Relay) (k : ℕ) → Beside z (onRelay f k z .board)
+  pub relay-beside : (there : Bool) (f : Relay → Relay) (k : ℕ) → Beside z (onRelay there f k z .board)
   unfolding onRelay putRelay
-  relay-beside f k =
-      by-cases (isChannel k)
-      (λ t. let h = in-range k (sym t) refl in rw t (set-beside (relayPlace k) (relayWords (rowAt (relayPlace k) z) (f (relayAt k z))) (omega (arith, h))))
+  relay-beside false f k = same-beside
+  relay-beside true f k =
+      by-cases (isRelay k)
+      (λ t. let h = relay-range k (sym t) refl in rw t (set-beside (relayPlace k) (relayWords (rowAt (relayPlace k) z) (f (relayAt k z))) (omega (arith, h))))
       (λ n. rw n same-beside)
 
   pub level-beside : (k v : ℕ) → Beside z (levelOf k v z .board)
@@ -90,18 +93,21 @@ module _ (z : Board) (r : runs (queueOf z) ≡ true) where
 
   pub relay-entry : (k flags state : ℕ) → Beside z (writeRelay k flags state z .board)
   unfolding writeRelay
-  relay-entry k flags state = by-cases (relayFails flags state) (λ t. rw t same-beside) (λ n. rw n (relay-beside (relayWritten flags state) k))
+  relay-entry k flags state = by-cases (relayFails flags state) (λ t. rw t same-beside) (λ n. rw n (relay-beside (isChannel k) (relayWritten flags state) k))
 
   pub block-beside : (mask states : ℕ) → Beside z (blockOf mask states z .board)
   unfolding blockOf
   block-beside mask states =
-      row-beside (blockOf mask states z .board) (beyond firstRelay 8 queueRow (blockedRow mask states) z (omega arith))
-      (rows-length firstRelay 8 (blockedRow mask states) z)
+      row-beside (blockOf mask states z .board) (beyond firstRelay 16 queueRow (blockedRow mask states) z (omega arith))
+      (rows-length firstRelay 16 (blockedRow mask states) z)
 
-  pub mark-beside : (changed : Bool) → Beside z (marked changed z)
+  pub mark-beside : (moved : Moved) → Beside z (marked moved z)
   unfolding marked
-  mark-beside true = row-beside (marked true z) (beyond firstLine 4 queueRow (λ _. markedRow) z (omega arith)) (rows-length firstLine 4 (λ _. markedRow) z)
-  mark-beside false = same-beside
+  mark-beside moved =
+      let f : ℕ → List ℕ → List ℕ = λ _. markedRow (moved .inner) (hasModule z) in
+      by-cases (anyMoved moved)
+      (λ t. rw t (row-beside (onRows firstLine 4 f z) (beyond firstLine 4 queueRow f z (omega arith)) (rows-length firstLine 4 f z)))
+      (λ n. rw n same-beside)
 
   pub connection-beside : (c : ℕ) (l : Line) → Beside z (putLine c l z)
   unfolding putLine

@@ -4,7 +4,7 @@
 --     unmasked    02, M-100, 3: the row of a relay that is not masked keeps every word, at a beginning and at an end
 --     elsewhere   02, M-100, 3: and so do the rows of the inputs;   clock-kept   and the clock's
 use mathlib.Core.Path.{_≡_, refl, ap, _∙_}
-use mathlib.Core.Bool.{Bool, true, false}
+use mathlib.Core.Bool.{true, false}
 use mathlib.Core.List.{List, [], _∷_}
 use Prim.Native.Nat.{ℕ, zero, suc, _+_, _%_, _^_, _<_, _≤_}
 use native.Mathlib.Nat.{mod-eq-of-lt}
@@ -12,16 +12,19 @@ use native.Mathlib.Omega.{arith}
 use native.Mathlib.Numerals.{add-one}
 use lib.ListN.{length, length-set}
 use lib.Seq.{getD-set-other}
+use Rattle.laws.proofs.Tests.{by-cases}
 use Rattle.rows.specs.declared.Queue.{Queue}
 use Rattle.rows.specs.Rows.{relayIn, relayWords}
 use Rattle.rows.specs.Places.{Board, rowAt, relayAt, firstRelay, relayPlace, clockRow, firstLine, queueRow, queueOf, putQueue, onRows}
-use Rattle.rows.proofs.Channel.{channel}
+use Rattle.rows.proofs.Channel.{relay}
 use Rattle.rows.proofs.Range.{within, beyond}
 use Rattle.rows.proofs.Views.{relay-again}
 use Rattle.rows.specs.Held as held
 use Rattle.laws.specs.Bits.{bitOf}
 use Rattle.changes.specs.Commands.{blockedRow, blockOf}
-use Rattle.marks.specs.Marks.{markedRow, marked}
+use Rattle.modules.specs.declared.Moved.{Moved}
+use Rattle.modules.specs.Modules.{hasModule}
+use Rattle.marks.specs.Marks.{markedRow, anyMoved, marked}
 use Rattle.ring.specs.declared.Pulse.{Pulse}
 use Rattle.pulses.specs.Pulses.{statesOf, switched, beginning, begun, ended}
 use Rattle.ring.specs.Ring.{popped}
@@ -68,15 +71,14 @@ kept (suc from) n j f (row ∷ b) s = let e : suc from + j ≡ suc (from + j) = 
 pub seat : (k : ℕ) → relayPlace (k + 1) ≡ firstRelay + k
 seat k = omega arith
 
-relay-of : (k : ℕ) → k < 8 → (b : Board) → relayAt (k + 1) b ≡ relayIn (rowAt (relayPlace (k + 1)) b)
+relay-of : (k : ℕ) → k < 16 → (b : Board) → relayAt (k + 1) b ≡ relayIn (rowAt (relayPlace (k + 1)) b)
 unfolding relayAt
-relay-of k h b = rw (channel k h)
+relay-of k h b = rw (relay k h)
 
 -- the marks are not in the relays' rows, nor in any before the connections'
-before-lines : (changed : Bool) (j : ℕ) (b : Board) → j < firstLine → rowAt j (marked changed b) ≡ rowAt j b
+before-lines : (moved : Moved) (j : ℕ) (b : Board) → j < firstLine → rowAt j (marked moved b) ≡ rowAt j b
 unfolding marked
-before-lines true j b h = before firstLine 4 j (λ _. markedRow) b h
-before-lines false j b h = refl
+before-lines moved j b h = by-cases (anyMoved moved) (λ t. rw t (before firstLine 4 j (λ _. markedRow (moved .inner) (hasModule b)) b h)) (λ f. rw f)
 
 -- and neither is the queue
 before-queue : (q : Queue) (j : ℕ) (b : Board) → j < queueRow → rowAt j (putQueue q b) ≡ rowAt j b
@@ -84,39 +86,39 @@ unfolding putQueue
 before-queue q j b h = getD-set-other b queueRow j _ [] (λ e. omega arith)
 
 module _ (mask states : ℕ) (b : Board) where
-  switched-row : (j : ℕ) → j < firstLine → rowAt j (switched mask states b) ≡ rowAt j (onRows firstRelay 8 (blockedRow mask states) b)
+  switched-row : (j : ℕ) → j < firstLine → rowAt j (switched mask states b) ≡ rowAt j (onRows firstRelay 16 (blockedRow mask states) b)
   unfolding switched blockOf
-  switched-row j h = before-lines _ j (onRows firstRelay 8 (blockedRow mask states) b) h
+  switched-row j h = before-lines _ j (onRows firstRelay 16 (blockedRow mask states) b) h
 
   -- a relay that is masked
-  masked-row : (k : ℕ) → k < 8 → clockRow ≤ length b → bitOf mask k ≡ true
+  masked-row : (k : ℕ) → k < 16 → clockRow ≤ length b → bitOf mask k ≡ true
       → rowAt (relayPlace (k + 1)) (switched mask states b) ≡ relayWords (rowAt (relayPlace (k + 1)) b) (held.switched (bitOf states k) (relayAt (k + 1) b))
   unfolding relayAt blockedRow
   masked-row k h l m =
-      rw (channel k h, seat k)
-      (switched-row (firstRelay + k) (omega arith) ∙ among firstRelay 8 k (blockedRow mask states) b h (omega arith) ∙ rw m)
+      rw (relay k h, seat k)
+      (switched-row (firstRelay + k) (omega arith) ∙ among firstRelay 16 k (blockedRow mask states) b h (omega arith) ∙ rw m)
 
-  pub switched-masked : (k : ℕ) → k < 8 → clockRow ≤ length b → bitOf mask k ≡ true
+  pub switched-masked : (k : ℕ) → k < 16 → clockRow ≤ length b → bitOf mask k ≡ true
       → relayAt (k + 1) (switched mask states b) ≡ held.switched (bitOf states k) (relayAt (k + 1) b)
   switched-masked k h l m =
       relay-of k h (switched mask states b) ∙ ap relayIn (masked-row k h l m)
       ∙ relay-again (rowAt (relayPlace (k + 1)) b) (held.switched (bitOf states k) (relayAt (k + 1) b))
 
   -- one that is not
-  pub switched-unmasked : (k : ℕ) → k < 8 → bitOf mask k ≡ false → rowAt (relayPlace (k + 1)) (switched mask states b) ≡ rowAt (relayPlace (k + 1)) b
+  pub switched-unmasked : (k : ℕ) → k < 16 → bitOf mask k ≡ false → rowAt (relayPlace (k + 1)) (switched mask states b) ≡ rowAt (relayPlace (k + 1)) b
   unfolding blockedRow
   switched-unmasked k h m =
-      rw (seat k) (switched-row (firstRelay + k) (omega arith) ∙ kept firstRelay 8 k (blockedRow mask states) b (λ row. rw m))
+      rw (seat k) (switched-row (firstRelay + k) (omega arith) ∙ kept firstRelay 16 k (blockedRow mask states) b (λ row. rw m))
 
   -- a row that is no relay's and no connection's
   switched-elsewhere : (j : ℕ) → j < firstRelay → rowAt j (switched mask states b) ≡ rowAt j b
-  switched-elsewhere j h = switched-row j (omega arith) ∙ before firstRelay 8 j (blockedRow mask states) b h
+  switched-elsewhere j h = switched-row j (omega arith) ∙ before firstRelay 16 j (blockedRow mask states) b h
 
   switched-clock : rowAt clockRow (switched mask states b) ≡ rowAt clockRow b
-  switched-clock = switched-row clockRow (omega arith) ∙ beyond firstRelay 8 clockRow (blockedRow mask states) b (omega arith)
+  switched-clock = switched-row clockRow (omega arith) ∙ beyond firstRelay 16 clockRow (blockedRow mask states) b (omega arith)
 
 -- the relays of a board whose queue alone is another
-pub relay-put : (q : Queue) (k : ℕ) (b : Board) → k < 8 → relayAt (k + 1) (putQueue q b) ≡ relayAt (k + 1) b
+pub relay-put : (q : Queue) (k : ℕ) (b : Board) → k < 16 → relayAt (k + 1) (putQueue q b) ≡ relayAt (k + 1) b
 unfolding relayAt
 relay-put q k b h = rw (before-queue q (relayPlace (k + 1)) b (omega arith))
 
@@ -125,14 +127,13 @@ unfolding putQueue
 put-length q b = length-set b queueRow _
 
 -- none of these changes how many rows there are
-marked-length : (changed : Bool) (b : Board) → length (marked changed b) ≡ length b
+marked-length : (moved : Moved) (b : Board) → length (marked moved b) ≡ length b
 unfolding marked
-marked-length true b = rows-length firstLine 4 (λ _. markedRow) b
-marked-length false b = refl
+marked-length moved b = by-cases (anyMoved moved) (λ t. rw t (rows-length firstLine 4 (λ _. markedRow (moved .inner) (hasModule b)) b)) (λ f. rw f)
 
 switched-length : (mask states : ℕ) (b : Board) → length (switched mask states b) ≡ length b
 unfolding switched blockOf
-switched-length mask states b = marked-length _ (onRows firstRelay 8 (blockedRow mask states) b) ∙ rows-length firstRelay 8 (blockedRow mask states) b
+switched-length mask states b = marked-length _ (onRows firstRelay 16 (blockedRow mask states) b) ∙ rows-length firstRelay 16 (blockedRow mask states) b
 
 pub begun-length : (p : Pulse) (b : Board) → length (begun p b) ≡ length b
 unfolding begun
@@ -144,7 +145,7 @@ ended-length p b = switched-length _ _ (putQueue (popped (queueOf b)) b) ∙ put
 
 -- ---- a beginning and an end
 
-module _ (p : Pulse) (b : Board) (k : ℕ) (h : k < 8) where
+module _ (p : Pulse) (b : Board) (k : ℕ) (h : k < 16) where
   pub begins : clockRow ≤ length b → bitOf (p .mask) k ≡ true → relayAt (k + 1) (begun p b) ≡ held.switched (bitOf (p .states) k) (relayAt (k + 1) b)
   unfolding begun
   begins l m =
@@ -164,8 +165,8 @@ module _ (p : Pulse) (b : Board) (k : ℕ) (h : k < 8) where
   unfolding ended
   returns z l e m =
       let q : Queue = popped (queueOf z) in
-      let small : statesOf b % 2 ^ 16 ≡ statesOf b = mod-eq-of-lt (omega (arith, states-small 8 b)) in
-      let bit : bitOf (queueOf z .remembered % 2 ^ 16) k ≡ relayAt (k + 1) b .closed = rw (e, small, add-one) (states-bit 8 k b h) in
+      let small : statesOf b % 2 ^ 16 ≡ statesOf b = mod-eq-of-lt (omega (arith, states-small 16 b)) in
+      let bit : bitOf (queueOf z .remembered % 2 ^ 16) k ≡ relayAt (k + 1) b .closed = rw (e, small, add-one) (states-bit 16 k b h) in
       switched-masked (p .mask) (queueOf z .remembered % 2 ^ 16) (putQueue q z) k h (rw (put-length q z) l) m ∙ rw (relay-put q k z h, bit)
 
   pub unmasked : bitOf (p .mask) k ≡ false

@@ -17,8 +17,8 @@ use Rattle.laws.proofs.Tests.{by-cases}
 use Rattle.rows.specs.declared.Queue.{Queue}
 use Rattle.rows.specs.declared.Relay.{Relay}
 use Rattle.rows.specs.Rows.{word, stateWord, usageWord, isOn}
-use Rattle.rows.specs.Places.{Board, isChannel, rowAt, relayAt, lineAt, relayPlace, linePlace, clockRow, clockSet, queueRow, queueOf, putQueue, leftSet, onRows}
-use Rattle.rows.proofs.Channel.{in-range, channel}
+use Rattle.rows.specs.Places.{Board, isRelay, rowAt, relayAt, lineAt, relayPlace, linePlace, firstOuter, clockRow, clockSet, queueRow, queueOf, putQueue, leftSet, onRows}
+use Rattle.rows.proofs.Channel.{relay-range, channel}
 use Rattle.rows.proofs.Range.{within, behind}
 use Rattle.rows.specs.Held as held
 use Rattle.laws.specs.Bits.{bitOf}
@@ -39,7 +39,7 @@ use Rattle.queue.proofs.Relays.{rows-length, relay-put, begins, begins-
 
 passed-length : (d : ℕ) (b : Board) → length (passed d b) ≡ length b
 unfolding passed clockSet
-passed-length d b = rw length-set (rows-length 0 clockRow (λ _. usagePassed d) b)
+passed-length d b = rw length-set (rows-length 0 firstOuter (λ _. usagePassed d) b)
 
 left-length : (v : ℕ) (b : Board) → length (leftSet v b) ≡ length b
 unfolding leftSet
@@ -53,37 +53,39 @@ state-kept d row =
     (λ t. rw t (getD-set-other row usageWord stateWord _ 0 (λ e. omega arith)))
     (λ f. rw f)
 
-state-used : (d j : ℕ) (b : Board) → j < clockRow → word stateWord (rowAt j (onRows 0 clockRow (λ _. usagePassed d) b)) ≡ word stateWord (rowAt j b)
-state-used d j b h =
-    by-cases (ltb j (length b))
-    (λ t. ap (word stateWord) (within clockRow j (λ _. usagePassed d) b h (ltb-true j (length b) t)) ∙ state-kept d (rowAt j b))
+state-used : (d j : ℕ) (b : Board) → word stateWord (rowAt j (onRows 0 firstOuter (λ _. usagePassed d) b)) ≡ word stateWord (rowAt j b)
+state-used d j b =
+    by-cases (ltb j firstOuter)
+    (λ o. by-cases (ltb j (length b))
+    (λ t. ap (word stateWord) (within firstOuter j (λ _. usagePassed d) b (ltb-true j firstOuter o) (ltb-true j (length b) t)) ∙ state-kept d (rowAt j b))
     (λ f. let l = ltb-false j (length b) f in
-    rw (no-row j (onRows 0 clockRow (λ _. usagePassed d) b) (rw (rows-length 0 clockRow (λ _. usagePassed d) b) l), no-row j b l))
+    rw (no-row j (onRows 0 firstOuter (λ _. usagePassed d) b) (rw (rows-length 0 firstOuter (λ _. usagePassed d) b) l), no-row j b l)))
+    (λ o. ap (word stateWord) (behind firstOuter j (λ _. usagePassed d) b (ltb-false j firstOuter o)))
 
 state-passed : (d j : ℕ) (b : Board) → j < clockRow → word stateWord (rowAt j (passed d b)) ≡ word stateWord (rowAt j b)
 unfolding passed clockSet
 state-passed d j b h =
-    ap (word stateWord) (getD-set-other (onRows 0 clockRow (λ _. usagePassed d) b) clockRow j _ [] (λ e. omega arith)) ∙ state-used d j b h
+    ap (word stateWord) (getD-set-other (onRows 0 firstOuter (λ _. usagePassed d) b) clockRow j _ [] (λ e. omega arith)) ∙ state-used d j b
 
 closed-passed : (d k : ℕ) (b : Board) → relayAt k (passed d b) .closed ≡ relayAt k b .closed
 unfolding relayAt
 closed-passed d k b =
-    by-cases (isChannel k)
-    (λ t. let h = in-range k (sym t) refl in rw t (ap isOn (state-passed d (relayPlace k) b (omega (arith, h)))))
+    by-cases (isRelay k)
+    (λ t. let h = relay-range k (sym t) refl in rw t (ap isOn (state-passed d (relayPlace k) b (omega (arith, h)))))
     (λ f. rw f)
 
 relay-left : (v k : ℕ) (b : Board) → relayAt k (leftSet v b) ≡ relayAt k b
 unfolding relayAt leftSet
 relay-left v k b =
-    by-cases (isChannel k)
-    (λ t. let h = in-range k (sym t) refl in rw (t, getD-set-other b queueRow (relayPlace k) _ [] (λ e. omega (arith, h))))
+    by-cases (isRelay k)
+    (λ t. let h = relay-range k (sym t) refl in rw (t, getD-set-other b queueRow (relayPlace k) _ [] (λ e. omega (arith, h))))
     (λ f. rw f)
 
 -- the connections
 row-later : (d j : ℕ) (b : Board) → clockRow < j → rowAt j (passed d b) ≡ rowAt j b
 unfolding passed clockSet
 row-later d j b h =
-    getD-set-other (onRows 0 clockRow (λ _. usagePassed d) b) clockRow j _ [] (λ e. omega arith) ∙ behind clockRow j (λ _. usagePassed d) b (omega arith)
+    getD-set-other (onRows 0 firstOuter (λ _. usagePassed d) b) clockRow j _ [] (λ e. omega arith) ∙ behind firstOuter j (λ _. usagePassed d) b (omega arith)
 
 line-passed : (d c : ℕ) (b : Board) → c < 4 → lineAt c (passed d b) ≡ lineAt c b
 unfolding lineAt
@@ -169,7 +171,7 @@ module _ (p : Pulse) (row : ℕ → List Pulse) (does : ℕ → Board → Board)
 
   pub returns-whatever : (n : ℕ) → suc n ≡ max 1 (p .duration)
       → (meddled row does (suc n) (begun p b) ≡ turned p (pulseAt (row n) (place (queueOf b) 1)) (inLast row does n (begun p b)))
-      × ((k : ℕ) → k < 8 → bitOf (p .mask) k ≡ true → relayAt (k + 1) (ended p (inLast row does n (begun p b))) .closed ≡ relayAt (k + 1) b .closed)
+      × ((k : ℕ) → k < 16 → bitOf (p .mask) k ≡ true → relayAt (k + 1) (ended p (inLast row does n (begun p b))) .closed ≡ relayAt (k + 1) b .closed)
   unfolding meddled tick
   returns-whatever n e =
       let y : Board = meddled row does n (begun p b) in
@@ -203,6 +205,9 @@ request-beside p z r =
 -- relay k + 1 is open, and p closes it; p stands where it is accepted
 module _ (p : Pulse) (b : Board) (row : List Pulse) (k : ℕ) (h : queueRow < length b) (idle : runs (queueOf b) ≡ false) (j : k < 8)
     (there : pulseAt row (place (queueOf b) 0) ≡ p) (some : 1 ≤ p .duration) (m : bitOf (p .mask) k ≡ true) (s : bitOf (p .states) k ≡ true) where
+  wide : k < 16
+  wide = omega arith
+
   -- the board when it has been accepted, and its relay
   abbrev start : Board
   start = accepted p b
@@ -224,14 +229,14 @@ module _ (p : Pulse) (b : Board) (row : List Pulse) (k : ℕ) (h : queueRow < le
 
   start-relay : relayAt (k + 1) start ≡ held.switched true (relayAt (k + 1) b)
   unfolding put-first
-  start-relay = rw start-is (begins p put-first k j start-size m ∙ rw (s, relay-put (joined p (queueOf b)) k b j))
+  start-relay = rw start-is (begins p put-first k wide start-size m ∙ rw (s, relay-put (joined p (queueOf b)) k b wide))
 
   grows : (n : ℕ) → relayAt (k + 1) (passed n start) ≡ held.relayUsed (grown (relayAt (k + 1) b .usage) n) (held.switched true (relayAt (k + 1) b))
   unfolding relayPassed
   grows n =
       let size : clockRow ≤ length start = rw (start-is, begun-length p put-first) start-size in
-      let words : 6 ≤ length (rowAt (relayPlace (k + 1)) start) = rw start-is (begins-row p put-first k j start-size m) in
-      time-relay n (k + 1) start (channel k j) size words ∙ rw start-relay
+      let words : 6 ≤ length (rowAt (relayPlace (k + 1)) start) = rw start-is (begins-row p put-first k wide start-size m) in
+      time-relay n (k + 1) start (channel k j) (omega arith) words ∙ rw start-relay
 
   one-stands : queueOf b .standing ≡ 0
   one-stands = omega (arith, ltb-false 0 (queueOf b .standing) idle)
@@ -269,7 +274,7 @@ module _ (p : Pulse) (b : Board) (row : List Pulse) (k : ℕ) (h : queueRow < le
       let size : clockRow ≤ length (passed d start) = rw (passed-length d start, start-is, begun-length p put-first) start-size in
       let was : queueOf (passed d start) .remembered ≡ statesOf put-first = rw (queue-passed d start) (ap (λ (q : Queue). q .remembered) start-queue) in
       rw ends-alone
-      (returns p put-first k j (passed d start) size was m ∙ rw (relay-put (joined p (queueOf b)) k b j, grows d, o))
+      (returns p put-first k wide (passed d start) size was m ∙ rw (relay-put (joined p (queueOf b)) k b wide, grows d, o))
 
 -- the record is where the request put it
 at-first : (p : Pulse) (b : Board) (row : List Pulse) → queueRow < length b → runs (queueOf b) ≡ false → 31 ≤ length row → Fits p

@@ -1,11 +1,14 @@
 -- The queue as 02 speaks of it, a list from which the first is taken; the ring of the crate pulses stands for it. Document 02, M-100.
-use mathlib.Core.Bool.{Bool, cond}
+use mathlib.Core.Path.{_≡_}
+use mathlib.Core.Bool.{Bool, true, cond}
 use mathlib.Core.List.{List, [], _∷_, _++_}
 use Prim.Native.Nat.{ℕ, zero, suc, _-_, _<_, _^_}
 use lib.Dec.{leb}
 use lib.ListN.{length}
 use Rattle.rows.specs.declared.Queue.{Queue}
+use Rattle.rows.specs.declared.Line.{Line}
 use Rattle.rows.specs.Places.{Board, relayAt, queueOf, leftSet}
+use Rattle.modules.specs.Modules.{hasModule}
 use Rattle.tables.specs.Time.{passed}
 use Rattle.changes.specs.Answers.{differ}
 use Rattle.ring.specs.declared.Pulse.{Pulse}
@@ -65,3 +68,9 @@ pub record Fits (p : Pulse) : Type 0 where
 -- 02, M-100, 3: relay k has another state in one board than in the other: a change that is a real one
 abbrev pub moved : ℕ → Board → Board → Bool
 moved k b b′ = differ (relayAt k b .closed) (relayAt k b′ .closed)
+
+-- 02, M-100, 3, and M-102, 4 and 6: a connection has been told of a change of the relay at place k: of one on the first deck by the Monitor
+-- message's mark, and, a module being present, of any by the External one's
+pub record Told (k : ℕ) (b : Board) (l : Line) : Type 0 where
+  pub monitor : k < 8 → l .due ≡ true
+  pub external : hasModule b ≡ true → l .external ≡ true
