@@ -50,7 +50,7 @@ static unsigned random_below(unsigned top)
     return (unsigned)(x >> 33) % top;
 }
 
-/* Device 0 to 7 an input, 8 to 15 a relay, 16 unknown. */
+/* Device 0 to 7 an input, 8 to 15 a relay, 16 a relay of the second deck, which is read and written as an unknown one is. No module is there. */
 static uint64_t id_of(unsigned device)
 {
     return device < 8 ? 0x01FFu + 0x100u * device : 0x0101FFu + 0x100u * (device - 8);

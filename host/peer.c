@@ -144,9 +144,10 @@ static void mark_due(peer_box *box, unsigned changed)
     bool inner = (changed & FIRST_DECK) != 0, external = has_module(&box->tables);
     for (int c = 0; c < WELLACORN_CONNECTIONS; c++) {
         peer_line *line = &box->connections[c].line;
-        bool listens = line->is_open & (line->rank != 0) & line->monitor;
-        line->due |= listens & inner;
-        line->external |= listens & external;
+        if (line->is_open & (line->rank != 0) & line->monitor) {
+            line->due |= inner;
+            line->external |= external;
+        }
     }
 }
 

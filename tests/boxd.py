@@ -37,6 +37,11 @@ def login(name, password):
     return frame(b"\x7E" + string(name) + string(password))
 
 
+def command(action, channel):
+    """Type 10 to one channel: 1 closes, 2 opens, 3 toggles a relay."""
+    return frame(b"\x0A" + bytes([action]) + field(channel, 2))
+
+
 def pulse(channel, ms):
     """Action 6: closes the relay for so long."""
     return frame(b"\x0A\x06" + field(channel, 2) + field(ms, 4))
@@ -52,8 +57,15 @@ def refused(answer):
     return rf"refused \({answer}\)"
 
 
+def outputs(content):
+    """The states that an External Monitor message (type 2) has, of 4 or 8 relays."""
+    assert content[:2] == b"\x02\x00" and content[2] in (4, 8) and len(content) == 3 + content[2] + 8, content.hex()
+    return list(content[3:-8])
+
+
 CLOCK = frame(b"\x05\x00\x00")
 MONITOR = frame(b"\x05\x00\x01")
+LIST = frame(b"\x1A\x01")
 
 # 001, Custom Command: what the host itself answers.
 HOW_MANY = frame(b"\xFF" + string(b"pulses") + b"\x00\x00\x00")

@@ -4,8 +4,8 @@
     python3 tests/browser.py [FOLDER]       puts its pictures into FOLDER, or target/panel
 
 Presses a button by keyboard and one by a click, looks whether the relays of the box switch and the page shows it, pulses relays for a
-duration that it writes, raises alarms, has a message refused, takes the box away and gives it back.  Prints what it saw, and exits 1 at the first
-thing that is not so.
+duration that it writes, plugs in the modules of the second deck and pulls them, raises alarms, has a message refused, takes the box away and gives
+it back.  Prints what it saw, and exits 1 at the first thing that is not so.
 """
 
 import base64
@@ -116,7 +116,8 @@ class Browser:
 
 
 TEXT = "document.body.innerText"
-BUTTONS = "[...document.querySelectorAll('button')]"            # of each relay: close or open, then pulse
+BUTTONS = "[...document.querySelectorAll('#relays button')]"    # of each of relays 1 to 8: close or open, then pulse
+DECK = "[...document.querySelectorAll('#deck .card')].filter(c => c.checkVisibility())"
 FOCUSED = "document.activeElement.getAttribute('aria-label')"
 
 
@@ -202,6 +203,34 @@ def try_pulses(browser, host, client, folder):
     assert host.count("asked for a pulse") == 4
 
 
+def deck_shows(*words):
+    """The cards of the second deck that are to be seen, each with its words: number and state."""
+    return f"{DECK}.map(c => c.querySelector('.top').innerText.replace(/\\s+/g, ' ')).join() === {','.join(words)!r}"
+
+
+def try_deck(browser, host, folder):
+    height = browser.value("document.documentElement.scrollHeight")
+    assert browser.value(f"{DECK}.length") == 0 and "Second deck" not in browser.value(TEXT), "a second deck without modules"
+    host.tell("filled 2")
+    browser.wait_for(deck_shows("Relay 13 OPEN", "Relay 14 OPEN", "Relay 15 OPEN", "Relay 16 OPEN"), "the module at place 2 is shown")
+    browser.value("document.querySelector(\"button[aria-label='Close relay 14']\").scrollIntoView()")
+    browser.click("button[aria-label='Close relay 14']")
+    host.wait_for("relay 14 is closed now")
+    browser.wait_for(deck_shows("Relay 13 OPEN", "Relay 14 CLOSED", "Relay 15 OPEN", "Relay 16 OPEN"), "relay 14 was closed by a click")
+    host.tell("filled 1")
+    browser.wait_for(f"{DECK}.length === 8 && {TEXT}.includes('Second deck')", "both modules are shown")
+    browser.picture(os.path.join(folder, "panel-deck.png"), TABLET)
+    browser.picture(os.path.join(folder, "panel-deck-phone.png"), PHONE)
+    assert browser.value("document.documentElement.scrollWidth") <= 412, "the page is wider than a phone with the second deck"
+    browser.ask("Emulation.setDeviceMetricsOverride", **TABLET)
+    host.tell("emptied 2")
+    browser.wait_for(deck_shows("Relay 9 OPEN", "Relay 10 OPEN", "Relay 11 OPEN", "Relay 12 OPEN"), "the module at place 2 is gone from the page")
+    host.tell("emptied 1")
+    browser.wait_for(f"{DECK}.length === 0 && !{TEXT}.includes('Second deck')", "so is the other")
+    assert browser.value("document.documentElement.scrollHeight") <= height, "the page is longer than before"
+    browser.value("window.scrollTo(0, 0)")
+
+
 def try_loss(browser, host, folder):
     host.process.kill()
     host.ended()
@@ -225,6 +254,7 @@ def main():
             try_buttons(browser, host)
             try_refused(browser, client, folder)
             try_pulses(browser, host, client, folder)
+            try_deck(browser, host, folder)
             try_loss(browser, host, folder)
             panel.process.terminate()
             panel.ended()

@@ -181,7 +181,7 @@ class Shrinker:
         """Leaves out the last word that a line may end before, the lent row's length or strictness, where it does not matter."""
         for index, line in enumerate(lines):
             words = line.split(" ")
-            usual = {"pass": 2, "bytes": 4, "open": 3}.get(words[0], len(words))
+            usual = {"pass": 2, "bytes": 4, "open": 3, "fill": 2, "empty": 2}.get(words[0], len(words))
             plain = lines[:index] + [" ".join(words[:usual])] + lines[index + 1:]
             if len(words) > usual and self.differs(plain) is not None:
                 lines = plain

@@ -25,9 +25,9 @@ import unittest
 import traces
 from answers import (BAD_CHECKSUM, ENDS_EARLY, KEEP_ALIVE, LEFT_OVER, LIST_CUT, LOW_RANK, NOT_OFFERED, OUT_OF_RANGE, QUEUE_FULL, SERVED, STRAY,
                      TOO_LONG, WAITING)
-from boxd import (Boxd, CLOCK, Client, HOW_MANY, LAST_REFUSED, MONITOR, PATIENCE, PROGRAM, Program, ROOT, block_pulse, frame, judge, login, pulse,
-                  refused, string, unchecked)
-from model import Box, INPUT_IDS, RELAY_IDS, field, number
+from boxd import (Boxd, CLOCK, Client, HOW_MANY, LAST_REFUSED, LIST, MONITOR, PATIENCE, PROGRAM, Program, ROOT, block_pulse, command, frame, judge,
+                  login, outputs, pulse, refused, string, unchecked)
+from model import Box, DECK_IDS, INPUT_IDS, RELAY_IDS, field, number
 
 sys.path.insert(0, os.path.join(ROOT, "host"))
 import adduser                                                                                      # noqa: E402
@@ -115,9 +115,13 @@ class Clients(Case):
             client.talk(stream, rng, rng.choice((40, 400, 3000)))
 
     def lifts(self, host, seed, n):
+        """Levels, and modules that are plugged in and pulled; at the end both are there."""
         rng = random.Random(seed)
         for _ in range(n):
             host.tell(f"level {rng.randrange(1, 9)} {rng.randrange(2)}")
+            if rng.randrange(20) == 0:
+                host.tell(f"{rng.choice(('filled', 'emptied'))} {rng.randrange(1, 3)}")
+        host.tell("filled 1\nfilled 2")
 
     def four_at_once(self, *words):
         """What is played of four clients at a time, each of whom got what the model replies, no byte more or less."""
@@ -128,6 +132,8 @@ class Clients(Case):
             host.quit()
             played = judge(host, clients)
         self.assertEqual(len(clients), 12)
+        self.assertEqual(played.box.filled, {1, 2})
+        self.assertGreater(sum(content[0] == 2 and 1 in outputs(content) for client in clients for content in client.contents()), 10)
         for answer in (WAITING, SERVED, KEEP_ALIVE, STRAY, TOO_LONG, BAD_CHECKSUM, NOT_OFFERED, OUT_OF_RANGE, ENDS_EARLY, LEFT_OVER, LIST_CUT):
             self.assertIn(answer, played.answers)
         return played
@@ -451,7 +457,7 @@ class Pulses(Case):
             client.finish()
             host.quit()
             played = judge(host, [client])
-            self.assertEqual([relay.state for relay in played.box.relays], [0, 1] + [0] * 6)
+            self.assertEqual([relay.state for relay in played.box.relays], [0, 1] + [0] * 14)
         self.assertEqual(self.said(host, "pulse of .* (has begun|has ended|waits)"), [
             "connection 0 asked for a pulse of relay 1, 1500 ms: it has begun; relay 1 is closed now",
             "connection 0 asked for a pulse of a block of relays, mask 06 state 04, 2 ms: it waits behind 1 other",
@@ -530,6 +536,193 @@ class Pulses(Case):
             host.quit()
             judge(host, [client])
         self.assertEqual(host.count(refused(NOT_OFFERED)), len(wrong))
+
+
+# ---------------------------------------------------------------------------------------------
+# The second deck (M-102)
+# ---------------------------------------------------------------------------------------------
+
+class SecondDeck(Case):
+    def say(self, host, line, pattern):
+        """Writes a line to standard input, and waits for what is said of it."""
+        before = len(host.lines)
+        host.tell(line)
+        return host.wait_for(pattern, before)
+
+    def state(self, host):
+        """What `state` says of places and of relays from 9 on."""
+        before = len(host.lines)
+        self.say(host, "state", "state: connection 3")
+        return [line.split("state: ")[1] for line in host.lines[before:] if re.search(r"state: (place|relay (9|1\d)) ", line)]
+
+    def kinds(self, client, n):
+        """The types of the next messages."""
+        return [client.next()[0] for _ in range(n)]
+
+    def test_commands(self):
+        """`filled` and `emptied`: what is said of a place, of one that is so already and of one that there is not; `state` tells the places and
+        those relays that are there.
+        """
+        place = r" \(11\): write `{0} P` with P 1 \(relays 9 to 12\) or 2 \(relays 13 to 16\)$"
+        with Boxd("--quiet", trace=True) as host:
+            self.assertEqual(self.state(host), ["place 1 is empty", "place 2 is empty"])
+            for line, said in (("filled 2", "place 2 is filled: relays 13 to 16 are there, all open$"),
+                               ("filled 2", "place 2 was filled already: nothing changed$"), ("emptied 1", "place 1 was empty already: nothing changed$"),
+                               *((f"{name} {word}", f"{name} refused" + place.format(name))
+                                 for name in ("filled", "emptied") for word in ("0", "3", "9", "255", "256", "x", "-1")),
+                               ("filled", "no such command: write .*`filled P`, `emptied P`"), ("emptied 1 1", "no such command"), ("fill 1", "no such"),
+                               (" filled\t1 ", "place 1 is filled: relays 9 to 12 are there, all open$")):
+                self.say(host, line, said)
+            with Client(host.port) as client:
+                client.send(command(1, 10) + command(1, 16))
+                client.clock()
+            self.assertEqual(self.state(host), ["place 1 is filled, relays 9 to 12", "relay 9 open", "relay 10 closed", "relay 11 open", "relay 12 open",
+                                                "place 2 is filled, relays 13 to 16", "relay 13 open", "relay 14 open", "relay 15 open", "relay 16 closed"])
+            self.say(host, "emptied 1", "place 1 is empty: relays 9 to 12 are gone; relay 10 is open now$")
+            self.assertEqual(self.state(host), ["place 1 is empty", "place 2 is filled, relays 13 to 16", "relay 13 open", "relay 14 open",
+                                                "relay 15 open", "relay 16 closed"])
+            self.say(host, "filled 1", "place 1 is filled")
+            self.assertIn("relay 10 open", self.state(host))
+            self.say(host, "emptied 1", "place 1 is empty: relays 9 to 12 are gone$")
+            host.quit()
+            box = judge(host, []).box
+        self.assertEqual((box.filled, [relay.state for relay in box.relays[8:]]), ({2}, [0] * 7 + [1]))
+
+    def test_two_messages(self):
+        """Both Monitor messages come with a connection, with request 1 and with a level, one behind the other; a relay of the second deck brings type 2
+        alone, and without a module there is no type 2.
+        """
+        with Boxd("--quiet", trace=True) as host, Client(host.port) as early:
+            self.assertEqual(early.next()[0], 1)
+            self.say(host, "filled 2", "is filled")
+            early.clock()
+            self.assertFalse(early.waits())                         # a module that is plugged in makes nothing due
+            with Client(host.port) as client:
+                self.assertEqual(self.kinds(client, 2), [1, 2])
+                client.send(MONITOR)
+                self.assertEqual(self.kinds(client, 2), [1, 2])
+                self.say(host, "level 3 1", "input 3 is on")
+                for one in (client, early):
+                    self.assertEqual(self.kinds(one, 2), [1, 2])
+                client.send(command(1, 15))
+                for one in (client, early):
+                    self.assertEqual(outputs(one.next()), [0, 0, 1, 0])
+                client.send(command(1, 5))
+                for one in (client, early):
+                    self.assertEqual(self.kinds(one, 2), [1, 2])
+                self.say(host, "filled 1", "is filled")
+                client.send(MONITOR)
+                self.assertEqual((client.next()[0], outputs(client.next())), (1, [0, 0, 0, 0, 0, 0, 1, 0]))
+                self.say(host, "emptied 2", "relay 15 is open now")
+                for one in (client, early):
+                    self.assertEqual(outputs(one.next()), [0, 0, 0, 0])
+                self.say(host, "emptied 1", "is empty")
+                client.send(MONITOR + CLOCK)
+                self.assertEqual(self.kinds(client, 2), [1, 6])
+                client.finish()
+            early.finish()
+            host.quit()
+            judge(host, [client, early])
+
+    def test_hung_up(self):
+        """A client that has hung up still gets type 2, where that alone is due."""
+        with Boxd("--quiet", trace=True) as host:
+            self.say(host, "filled 1", "is filled")
+            with Client(host.port) as client:
+                self.assertEqual(self.kinds(client, 2), [1, 2])
+                client.send(command(3, 12))
+                client.finish()
+            host.quit()
+            judge(host, [client])
+        last = list(client.contents())[-1]
+        self.assertEqual(outputs(last), [0, 0, 0, 1])
+
+    def test_requests(self):
+        """Requests 4 and 5 turn both messages off and on."""
+        with Boxd("--quiet", trace=True) as host:
+            self.say(host, "filled 1", "is filled")
+            with Client(host.port) as client:
+                self.assertEqual(self.kinds(client, 2), [1, 2])
+                client.send(frame(b"\x05\x00\x04") + command(1, 9) + command(1, 1) + CLOCK)
+                self.assertEqual(self.kinds(client, 1), [6])
+                client.send(frame(b"\x05\x00\x05") + command(2, 9) + CLOCK)
+                self.assertEqual(sorted(self.kinds(client, 2)), [2, 6])
+                client.finish()
+            host.quit()
+            judge(host, [client])
+
+    def test_told(self):
+        """What is said of commands to relays 9 to 16, and of those whose module is not there."""
+        absent = "sent a message of type 10; " + refused(OUT_OF_RANGE) + ": relay {}: no module at place {}"
+        range_ = "sent a message of type 10; " + refused(OUT_OF_RANGE) + ": an action, request, channel, duration or flag is out of range"
+        with Boxd("--quiet", trace=True) as host, Client(host.port) as client:
+            self.say(host, "filled 1", "is filled")
+            for message, said in (
+                    (command(1, 9), "commanded relay 9 closed; relay 9 is closed now$"), (command(1, 9), "commanded relay 9 closed$"),
+                    (command(3, 12), "toggled relay 12; relay 12 is closed now$"), (command(2, 9), "commanded relay 9 open; relay 9 is open now$"),
+                    *((message, absent.format(k, 2)) for k in range(13, 17) for message in (command(1, k), command(2, k), command(3, k), pulse(k, 5))),
+                    (pulse(14, 0), absent.format(14, 2)), (pulse(10, 0), range_), (command(1, 17), range_), (command(5, 9), range_),
+                    (command(8, 13), range_), (command(9, 16), range_), (command(1, 0), range_), (frame(b"\x0A\x04\x00\x0D"), range_),
+                    (frame(b"\x0A\x00\x00\x0D"), range_), (frame(b"\x1A\x09"), range_.replace("type 10", "type 26")),
+                    (LIST, "listed the devices: 20$"), (frame(b"\x02" + bytes(14)), "sent a message of type 2; " + refused(NOT_OFFERED)),
+                    (frame(b"\x17\x00\x01" + field(DECK_IDS[0], 8) + b"\x00\x02\x01\x01"), "wrote 0 of 1 devices$")):
+                before = len(host.lines)
+                client.send(message)
+                host.wait_for("connection 0 " + said, before)
+            self.say(host, "filled 2\nemptied 1", "place 1 is empty: relays 9 to 12 are gone; relay 12 is open now")
+            client.send(command(1, 9))
+            host.wait_for(absent.format(9, 1))
+            client.clock()                                          # reads the answer to the first list
+            self.assertEqual(client.ask(LIST, 27)[-32:], b"".join(field(id, 8) for id in DECK_IDS[4:]))
+            client.finish()
+            host.quit()
+            judge(host, [client])
+
+    def test_pulses(self):
+        """Pulses of the second deck are told as others are, and end by themselves, which comes in type 2 alone."""
+        with Boxd("--quiet", trace=True) as host:
+            self.say(host, "filled 2", "is filled")
+            with Client(host.port) as client:
+                self.assertEqual(self.kinds(client, 2), [1, 2])
+                client.send(pulse(13, 300))
+                self.assertEqual([outputs(client.next()) for _ in range(2)], [[1, 0, 0, 0], [0, 0, 0, 0]])
+                client.finish()
+            host.quit()
+            judge(host, [client])
+        self.assertTrue(host.find("asked for a pulse of relay 13, 300 ms: it has begun; relay 13 is closed now$"))
+        self.assertTrue(host.find("the pulse of relay 13, 300 ms, has ended; relay 13 is open now$"))
+
+    def test_pulled_while_pulses_stand(self):
+        """Pulses of a module that is pulled keep their places and their times, and lose its relays; that is said.  The others stay as they are."""
+        with Boxd("--quiet", trace=True) as host, Client(host.port) as client:
+            self.say(host, "filled 1\nfilled 2", "place 2 is filled")
+            client.send(command(1, 11) + pulse(9, 1500) + pulse(13, 20) + pulse(12, 30) + block_pulse(0x81, 0x80, 40) + pulse(9, 60000))
+            host.wait_for("waits behind 4 others")
+            self.say(host, "emptied 1", "place 1 is empty: relays 9 to 12 are gone; relay 9 is open now; relay 11 is open now; "
+                                        "3 pulses have lost them from their masks$")
+            before = len(host.lines)
+            self.say(host, "state", "connection 3")
+            self.assertEqual([re.sub(r"\d+ ms left", "left", line.split("state: ")[1]) for line in host.lines[before:] if "the pulse" in line],
+                             ["the pulse of no relay any more, 1500 ms, runs: left", "the pulse of relay 13, 20 ms, waits",
+                              "the pulse of no relay any more, 30 ms, waits", "the pulse of a block of relays, mask 81 state 80, 40 ms, waits",
+                              "the pulse of no relay any more, 60000 ms, waits"])
+            self.say(host, "filled 1", "is filled")
+            host.wait_for("the pulse of no relay any more, 60000 ms, has begun")
+            self.assertEqual(client.ask(HOW_MANY, 254)[4], 1)
+            self.say(host, "emptied 2\nfilled 2", "place 2 is filled")
+            client.send(pulse(16, 5))
+            host.wait_for("relay 16, 5 ms: it waits behind 1 other")
+            self.say(host, "emptied 2", "place 2 is empty: relays 13 to 16 are gone; 1 pulse has lost them from its mask$")
+            client.finish()
+            host.quit()
+            played = judge(host, [client])
+        self.assertEqual([pulse.mask for pulse in played.box.queue], [0, 0])
+        self.assertEqual(played.box.relay_states(), 0)
+        self.assertEqual([found.group(1) for found in (re.search("the pulse of (.* ms, has (begun|ended))", line) for line in host.lines) if found], [
+            "no relay any more, 1500 ms, has ended", "relay 13, 20 ms, has begun", "relay 13, 20 ms, has ended",
+            "no relay any more, 30 ms, has begun", "no relay any more, 30 ms, has ended",
+            "a block of relays, mask 81 state 80, 40 ms, has begun", "a block of relays, mask 81 state 80, 40 ms, has ended",
+            "no relay any more, 60000 ms, has begun"])
 
 
 # ---------------------------------------------------------------------------------------------
@@ -1043,7 +1236,8 @@ class Arguments(Case):
     def test_help(self):
         done = subprocess.run([os.path.join(ROOT, "host", "exec"), PROGRAM, "--help"], stdout=subprocess.PIPE, text=True, check=True,
                               timeout=PATIENCE)
-        for word in ("--listen", "--users", "--strict", "--settings", "--quiet", "--seed", "--trace", "level K V", "state", "quit"):
+        for word in ("--listen", "--users", "--strict", "--settings", "--quiet", "--seed", "--trace", "level K V", "filled P", "emptied P", "state",
+                     "quit"):
             self.assertIn(word, done.stdout)
 
 

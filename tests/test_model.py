@@ -4,7 +4,7 @@
     python3 tests/test_model.py
 
 Expected values are those of 01-scope.md, REPLAY.md and 001; the sentence's place in 01 stands with each check, counted as in
-model.py.  Those of requests M-100, M-103 and M-105 of 02 are worked out by hand from their text, and the reason stands with each.
+model.py.  Those of requests M-100, M-102, M-103 and M-105 of 02 are worked out by hand from their text, and the reason stands with each.
 """
 
 import os
@@ -18,7 +18,7 @@ import hold
 import traces
 from answers import (ALREADY_OPEN, BAD_CHECKSUM, BAD_RANK, BY_NAME, ENDS_EARLY, KEEP_ALIVE, LEFT_OVER, LIST_CUT, LOW_RANK,
                      NO_CONNECTION, NOT_OFFERED, OUT_OF_RANGE, QUEUE_FULL, SERVED, SHORT_BUFFER, STRAY, TOO_LONG, WAITING)
-from model import Box, CRC_TABLE, INPUT_IDS, PULSES, RELAY_IDS, TOP32, TOP64, crc16, field
+from model import Box, CRC_TABLE, DECK_IDS, INPUT_IDS, PLACES, PULSES, RELAY_IDS, TOP32, TOP64, crc16, field, number
 from mutants import MUTANTS
 
 HERE = os.path.dirname(os.path.abspath(__file__))
@@ -75,10 +75,13 @@ class Case(unittest.TestCase):
 
     def relays(self):
         """Channel 8 to channel 1, as 01 writes them."""
-        return "".join(str(relay.state) for relay in reversed(self.box.relays))
+        return "".join(str(relay.state) for relay in reversed(self.box.relays[:8]))
 
     def due(self, c=0):
         return self.box.connections[c].due
+
+    def due2(self, c=0):
+        return self.box.connections[c].due2
 
     def count(self, k=1):
         return self.box.inputs[k - 1].count
@@ -195,20 +198,21 @@ class EachEdge(Case):
 
 class ConsoleExample(Case):
     def test_console_example(self):
-        """Console, 2 and 6: two digits for the answer, two for the relays.  M-105, 3: the third answer is 0x14."""
+        """Console, 2 and 6: two digits for the answer; M-102, 10: four for the relays.  M-105, 3: the third answer is 0x14."""
         printed = []
         for line in ("010004FFFF0A0A0505", "010004FFFF0A030001", "010003FFFF0A0300", "06"):
             answer = self.feed(line)[0]
-            printed.append(f"{answer:02X}{int(self.relays(), 2):02X}")
-        self.assertEqual(printed, ["0105", "0104", "1404", "0204"])
+            printed.append(f"{answer:02X}{self.box.relay_states():04X}")
+        self.assertEqual(printed, ["010005", "010004", "140004", "020004"])
 
 
 class ReplayPage(unittest.TestCase):
     EXAMPLE = (
         ("open 0 2", "1"),
         ("bytes 0 4096 010004FFFF0A0A0505", "1 9 0 0 -"),
-        ("state", "C 0 I 0,0,0 0,0,0 0,0,0 0,0,0 0,0,0 0,0,0 0,0,0 0,0,0 R 1,0 0,0 1,0 0,0 0,0 0,0 0,0 0,0 "
-                  "N 1,2,1,1,0,0 0,0,0,0,0,0 0,0,0,0,0,0 0,0,0,0,0,0 P 0"),
+        ("state", "C 0 I 0,0,0 0,0,0 0,0,0 0,0,0 0,0,0 0,0,0 0,0,0 0,0,0 "
+                  "R 1,0 0,0 1,0 0,0 0,0 0,0 0,0 0,0 0,0 0,0 0,0 0,0 0,0 0,0 0,0 0,0 "
+                  "N 1,2,1,1,0,0,0 0,0,0,0,0,0,0 0,0,0,0,0,0,0 0,0,0,0,0,0,0 P 0"),
         ("bytes 0 4095 06", "4 0 0 0 -"),
         ("bytes 0 4096 0601", "2 1 0 0 -"),
         ("pass 7", "1"),
@@ -243,7 +247,9 @@ class ReplayPage(unittest.TestCase):
         for line, printed in (("open 255 255", "3"), ("open 3 255", "13"), ("close 255", "3"), ("level 255 255", "11"),
                               ("pass 4294967295", "1"), ("pass 0", "1"), ("open 3 2 255", "1"), ("open 3 255", "12"),
                               ("open 255 255 255", "3"), ("open 2 255 255", "13"), ("open 2 0 0", "1"), ("open 2 0 256", "?"),
-                              ("bytes 3 65536 06", "2 1 0 0 -"), ("bytes 3 0 06", "4 0 0 0 -"), ("bytes 3 4096 -", "0 0 0 0 -")):
+                              ("bytes 3 65536 06", "2 1 0 0 -"), ("bytes 3 0 06", "4 0 0 0 -"), ("bytes 3 4096 -", "0 0 0 0 -"),
+                              ("fill 0", "11"), ("fill 255", "11"), ("fill 255 0", "4"), ("fill 1 64", "1"), ("empty 3", "11"),
+                              ("empty 255 30", "4"), ("empty 2", "1"), ("empty 01 031", "1")):
             self.assertEqual(box.line(line), printed, line)
 
     def test_power_settings(self):
@@ -251,7 +257,7 @@ class ReplayPage(unittest.TestCase):
         self.assertEqual(box.line("power " + " ".join(str(n) for n in list(range(3)) + [1] + [0] * 28 + list(range(8)))), "1")
         inp = box.inputs[0]
         self.assertEqual((inp.setpoint1, inp.setpoint2, inp.usage_setpoint, inp.switch), (0, 1, 2, 1))
-        self.assertEqual([relay.usage_setpoint for relay in box.relays], list(range(8)))
+        self.assertEqual([relay.usage_setpoint for relay in box.relays], list(range(8)) + [0] * 8)
         box.line("open 0 2")
         self.assertEqual(box.line("power"), "1")
         self.assertEqual(box.connections[0].open, 0, "a fresh box")
@@ -265,24 +271,43 @@ class ReplayPage(unittest.TestCase):
         box.line("open 1 0")
         for piece, got in (("01", 1), ("00", 2), ("02FF", 4), ("FF", 5), ("06", 6), ("0101", 0)):
             box.line(f"bytes 1 4096 {piece}")
-            self.assertEqual(self.connection_1(box), f"1,0,1,0,{got},0")
+            self.assertEqual(self.connection_1(box), f"1,0,1,0,{got},0,0")
         box.line("bytes 1 4096 01FFFF0000" + "06" * 65534)
-        self.assertEqual(self.connection_1(box), f"1,0,1,0,{5 + 65535 - 1},0")
+        self.assertEqual(self.connection_1(box), f"1,0,1,0,{5 + 65535 - 1},0,0")
         self.assertEqual(box.line("bytes 1 4096 0606"), "6 1 0 0 -")
-        self.assertEqual(self.connection_1(box), "1,0,1,0,0,0")
+        self.assertEqual(self.connection_1(box), "1,0,1,0,0,0,0")
         box.line("bytes 1 4096 0100")
         box.line("close 1")
-        self.assertEqual(self.connection_1(box), "0,0,0,0,0,0")
+        self.assertEqual(self.connection_1(box), "0,0,0,0,0,0,0")
 
     def test_strict(self):
         """Any number but 0 shows as 1, and whatever was said of a shut connection as 0."""
         box = Box()
-        for line, shown in (("open 1 0", "1,0,1,0,0,0"), ("close 1", "0,0,0,0,0,0"), ("open 1 2 1", "1,2,1,1,0,1"),
-                            ("close 1", "0,0,0,0,0,0"), ("open 1 1 255", "1,1,1,1,0,1"), ("open 1 1 0", "1,1,1,1,0,1"),
-                            ("close 1", "0,0,0,0,0,0"), ("open 1 3 1", "0,0,0,0,0,0"), ("open 1 0 0", "1,0,1,0,0,0"),
-                            ("open 1 0 1", "1,0,1,0,0,0")):
+        for line, shown in (("open 1 0", "1,0,1,0,0,0,0"), ("close 1", "0,0,0,0,0,0,0"), ("open 1 2 1", "1,2,1,1,0,0,1"),
+                            ("close 1", "0,0,0,0,0,0,0"), ("open 1 1 255", "1,1,1,1,0,0,1"), ("open 1 1 0", "1,1,1,1,0,0,1"),
+                            ("close 1", "0,0,0,0,0,0,0"), ("open 1 3 1", "0,0,0,0,0,0,0"), ("open 1 0 0", "1,0,1,0,0,0,0"),
+                            ("open 1 0 1", "1,0,1,0,0,0,0")):
             box.line(line)
             self.assertEqual(self.connection_1(box), shown, line)
+
+    def test_due2(self):
+        """Between what is half read and strictness: the order is that of the requests.  Of a shut connection it is 0."""
+        box = Box()
+        for line, shown in (("open 1 2 1", "1,2,1,1,0,0,1"), ("fill 2", "1,2,1,1,0,0,1"), ("level 1 1", "1,2,1,1,0,1,1"),
+                            ("bytes 1 4096 0100", "1,2,1,1,2,1,1"), ("close 1", "0,0,0,0,0,0,0"), ("level 1 0", "0,0,0,0,0,0,0"),
+                            ("open 1 1", "1,1,1,1,0,1,0"), ("collect 1 4096", "1,1,1,0,0,0,0"), ("close 1", "0,0,0,0,0,0,0"),
+                            ("open 1 0", "1,0,1,0,0,0,0"), ("level 1 1", "1,0,1,0,0,0,0")):
+            box.line(line)
+            self.assertEqual(self.connection_1(box), shown, line)
+
+    def test_sixteen_relays(self):
+        """Of 9 to 16 no usage is shown; masks, states and what was have their bits."""
+        box = Box()
+        for line in ("open 0 2", "fill 1", "fill 2", "bytes 0 4096 010004FFFF0A010010", "bytes 0 4096 010008FFFF0A06001000000005",
+                     "bytes 0 4096 010008FFFF0A06000900000007", "pass 2"):
+            self.assertEqual(box.line(line).split(" ")[0], "1")
+        self.assertEqual(box.line("state"), "C 2 I" + " 0,0,0" * 8 + " R" + " 0,0" * 15 + " 1,0 N 1,2,1,1,0,1,0"
+                         + " 0,0,0,0,0,0,0" * 3 + " P 2 32768,32768,3 256,256,7 was 32768")
 
 
 class Published(Case):
@@ -334,7 +359,7 @@ class BoxAndEvents(Case):
 
     def test_power_up(self):
         """What the box holds, 5."""
-        zeros = " ".join(["0,0,0"] * 8), " ".join(["0,0"] * 8), " ".join(["0,0,0,0,0,0"] * 4)
+        zeros = " ".join(["0,0,0"] * 8), " ".join(["0,0"] * 16), " ".join(["0,0,0,0,0,0,0"] * 4)
         self.assertEqual(Box().state(), "C 0 I %s R %s N %s P 0" % zeros)
 
     def test_alarm_state(self):
@@ -383,7 +408,7 @@ class BoxAndEvents(Case):
         grown = TOP32 + 5
         self.assertEqual(self.box.clock, grown)
         self.assertEqual([inp.usage for inp in self.box.inputs], [0, grown] + [0] * 6)
-        self.assertEqual([relay.usage for relay in self.box.relays], [0, 0, grown] + [0] * 5)
+        self.assertEqual([relay.usage for relay in self.box.relays], [0, 0, grown] + [0] * 13)
 
     def test_clock_stops(self):
         """Events, 2: at its largest number."""
@@ -1053,6 +1078,620 @@ class Pulses(Case):
         self.assertEqual(self.queue(), "0")
 
 
+class SecondDeck(Case):
+    """02, M-102.  Layout of type 2: 000, "External Monitor Packet"."""
+
+    PRESENT = {(): (), (1,): range(9, 13), (2,): range(13, 17), (1, 2): range(9, 17)}
+
+    def modules(self, *places):
+        """Just these places filled."""
+        for place in (1, 2):
+            self.assertEqual(self.box.fill(place) if place in places else self.box.empty(place), SERVED)
+
+    def work(self, action, channel, c=0):
+        return self.answer(f"0A{action:02X}{channel:04X}", c)
+
+    def pulse(self, channel, duration):
+        return self.answer(f"0A06{channel:04X}{duration:08X}")
+
+    def deck(self):
+        """Relay 9 to relay 16, in the order in which type 2 has them."""
+        return "".join(str(relay.state) for relay in self.box.relays[8:])
+
+    def queue(self):
+        return self.box.state().split(" P ")[1]
+
+    def marks(self, c=0):
+        return self.due(c), self.due2(c)
+
+    def nothing_due(self, *connections):
+        for c in connections or range(4):
+            self.box.collect(c, 4096)
+
+    def contents(self, reply):
+        """Of frames that stand one behind the other the contents, in hexadecimal."""
+        found = []
+        while reply:
+            content = reply[5:5 + number(reply[1:3])]
+            self.assertEqual(reply[:5], b"\x01" + field(len(content), 2) + field(crc16(content), 2), "Frame, 6")
+            found.append(content.hex().upper())
+            reply = reply[5 + len(content):]
+        return found
+
+    def collected(self, c=0):
+        answer, reply = self.box.collect(c, 4096)
+        self.assertEqual(answer, SERVED if reply else WAITING)
+        return self.contents(reply)
+
+    def asked(self, c=0):
+        """What request 1 is answered."""
+        answer, taken, place, reply = self.box.bytes_(c, 4096, traces.framed(b"\x05\x00\x01"))
+        self.assertEqual((answer, taken, place), (SERVED, 8, 0))
+        return self.contents(reply)
+
+    def types(self, contents):
+        return [content[:2] for content in contents]
+
+    # -- places ------------------------------------------------------------------------------------
+
+    def test_which_relays_each_place_has(self):
+        """M-102, 1: 9 to 12 and 13 to 16.  Relays 1 to 8 are there always; 0 and 17 never are."""
+        for places, present in self.PRESENT.items():
+            self.modules(*places)
+            for channel in (*range(19), 255, 256, 256 + 9, 0x0900, 0xFFFF):
+                there = 1 <= channel <= 8 or channel in present
+                self.assertEqual(self.work(3, channel), SERVED if there else OUT_OF_RANGE, (places, channel))
+
+    def test_both_are_empty_at_power_up(self):
+        self.assertEqual([self.work(1, channel) for channel in range(9, 17)], [OUT_OF_RANGE] * 8)
+        self.modules(1, 2)
+        self.work(1, 9)
+        self.power()
+        self.assertEqual((self.work(2, 9), self.work(2, 16), self.deck()), (OUT_OF_RANGE, OUT_OF_RANGE, "00000000"))
+
+    def test_again_changes_nothing(self):
+        """M-102, 1: answered 1 like the first time, with relays closed, pulses standing and messages due."""
+        self.assertEqual((self.box.empty(1), self.box.empty(2)), (SERVED, SERVED))
+        self.box.fill(1)
+        self.work(1, 9)
+        self.pulse(9, 5)
+        self.pulse(12, 5)
+        before = self.box.state()
+        for _ in range(2):
+            self.assertEqual((self.box.fill(1), self.box.empty(2)), (SERVED, SERVED))
+            self.assertEqual(self.box.state(), before)
+        self.assertEqual(self.marks(), (0, 1))
+
+    def test_other_places(self):
+        """M-102, 12: 11, and nothing is changed, whatever is filled."""
+        for places in self.PRESENT:
+            self.modules(*places)
+            before = self.box.state()
+            for place in (0, *range(3, 256)):
+                self.assertEqual((self.box.fill(place), self.box.empty(place)), (OUT_OF_RANGE, OUT_OF_RANGE), place)
+            self.assertEqual((self.box.state(), self.box.filled), (before, set(places)))
+
+    def test_rows(self):
+        """M-102, 12: 4 under 31 records, before the place is looked at; also where nothing would be done."""
+        for places in self.PRESENT:
+            self.modules(*places)
+            for row in (0, 1, 30):
+                for place in (0, 1, 2, 3, 255):
+                    self.assertEqual((self.box.fill(place, row), self.box.empty(place, row)), (SHORT_BUFFER,) * 2, (place, row))
+                    self.assertEqual(self.box.filled, set(places))
+        for row in (31, 32, 64):
+            self.assertEqual((self.box.fill(1, row), self.box.fill(3, row)), (SERVED, OUT_OF_RANGE))
+            self.assertEqual((self.box.empty(1, row), self.box.empty(0, row)), (SERVED, OUT_OF_RANGE))
+
+    def test_at_any_time(self):
+        """M-102, 1: with every connection shut, and in the middle of a message, which is judged by what is there at its end."""
+        self.box.close(0)
+        self.assertEqual((self.box.fill(1), self.box.empty(1), self.box.fill(1)), (SERVED, SERVED, SERVED))
+        self.box.open(0, 2)
+        self.assertEqual(self.feed("010004FFFF0A0300"), (WAITING, 8, 0, b""))
+        self.box.empty(1)
+        self.assertEqual(self.feed("09"), (OUT_OF_RANGE, 1, 0, b""))
+        self.assertEqual(self.feed("010004FFFF0A0300"), (WAITING, 8, 0, b""))
+        self.box.fill(1)
+        self.assertEqual(self.feed("09"), (SERVED, 1, 0, b""))
+        self.assertEqual(self.deck(), "10000000")
+
+    # -- actions -----------------------------------------------------------------------------------
+
+    def test_close_open_and_toggle(self):
+        """M-102, 2: of one relay each, and of no other."""
+        self.modules(1, 2)
+        for action, channel, deck in ((1, 9, "10000000"), (1, 9, "10000000"), (3, 9, "00000000"), (3, 12, "00010000"),
+                                      (2, 12, "00000000"), (2, 12, "00000000"), (1, 13, "00001000"), (3, 16, "00001001"),
+                                      (2, 13, "00000001"), (3, 16, "00000000")):
+            self.assertEqual(self.content(f"0A{action:02X}{channel:04X}"), (SERVED, ""))
+            self.assertEqual((self.deck(), self.relays()), (deck, "00000000"), (action, channel))
+
+    def test_actions_that_keep_to_8(self):
+        """M-102, 3, and 2: neither inputs nor usages have more than eight, whatever is filled."""
+        self.modules(1, 2)
+        before = self.box.state()
+        for action in (5, 8, 9):
+            self.assertEqual([self.work(action, channel) for channel in range(9, 18)], [OUT_OF_RANGE] * 9)
+            self.assertEqual((self.work(action, 8), self.work(action, 0)), (SERVED, OUT_OF_RANGE))
+        self.assertEqual(self.box.state(), before)
+
+    def test_masks_of_one_byte(self):
+        """M-102, 2: the actions of a block have one byte for eight relays still."""
+        self.modules(1, 2)
+        self.work(1, 10)
+        for content in ("0A0AFFFF", "0A0AFF00", "0A07FFFF00000003"):
+            self.assertEqual(self.answer(content), SERVED)
+            self.assertEqual(self.deck(), "01000000")
+        self.box.pass_(3)
+        self.assertEqual((self.relays(), self.deck()), ("00000000", "01000000"))
+        self.assertEqual(self.told("0A0AFFFFFFFF"), (LEFT_OVER, 4), "000's layout for sixteen")
+        self.assertEqual(self.told("0A07FFFFFFFF00000003"), (LEFT_OVER, 8), "000's layout for sixteen")
+
+    def test_channel_without_its_module(self):
+        """M-102, 12: refused, nothing is done: one module has nothing to do with the other's channels."""
+        for places, absent in (((), range(9, 17)), ((1,), range(13, 17)), ((2,), range(9, 13))):
+            self.modules(*places)
+            before = self.box.state()
+            for channel in absent:
+                self.assertEqual([self.work(action, channel) for action in (1, 2, 3)], [OUT_OF_RANGE] * 3)
+                self.assertEqual((self.pulse(channel, 1), self.pulse(channel, 0)), (OUT_OF_RANGE, OUT_OF_RANGE))
+            self.assertEqual(self.box.state(), before)
+
+    def test_order_of_refusals(self):
+        """M-102, 12, and M-100, 7: the action, the length, the channel with its module, the duration, then the queue."""
+        self.box.fill(1)
+        for content, told in (("0A04000D", (OUT_OF_RANGE, 0)), ("0A01000D00", (LEFT_OVER, 4)), ("0A0100", (ENDS_EARLY, 3)),
+                              ("0A06000D000000", (ENDS_EARLY, 7)), ("0A06000D0000000100", (LEFT_OVER, 8)),
+                              ("0A06000D00000001", (OUT_OF_RANGE, 0)), ("0A06000900000000", (OUT_OF_RANGE, 0))):
+            self.assertEqual(self.told(content), told, content)
+        self.assertEqual([self.pulse(9, 1) for _ in range(32)], [SERVED] * 31 + [QUEUE_FULL])
+        self.assertEqual((self.pulse(9, 1), self.pulse(13, 1), self.pulse(17, 1)), (QUEUE_FULL, OUT_OF_RANGE, OUT_OF_RANGE))
+        self.box.fill(2)
+        self.assertEqual((self.pulse(13, 1), self.pulse(17, 1), self.pulse(13, 0)), (QUEUE_FULL, OUT_OF_RANGE, OUT_OF_RANGE))
+
+    def test_no_usage(self):
+        """Events, 2, of relays 1 to 8; type 8 has sixteen usages as before."""
+        self.modules(1, 2)
+        for channel in (8, 9, 16):
+            self.work(1, channel)
+        self.box.pass_(7)
+        self.assertEqual([relay.usage for relay in self.box.relays], [0] * 7 + [7] + [0] * 8)
+        reply = self.content("050002")[1]
+        self.assertEqual(reply, "08" + "00" * 120 + "0000000000000007" + "0000000000000007")
+
+    # -- type 2 ------------------------------------------------------------------------------------
+
+    def test_what_it_says(self):
+        """M-102, 5: no inputs, 4 or 8 outputs, those that are present from the lowest on, the clock."""
+        self.modules(1, 2)
+        for channel in (2, 10, 13, 16):
+            self.work(1, channel)
+        self.box.pass_(258)
+        for places, states in (((1, 2), "0001000001000001"), ((2,), "01000001")):
+            self.modules(*places)
+            content = "0200" + f"{len(states) // 2:02X}" + states + "0000000000000102"
+            self.assertEqual(self.asked()[1:], [content])
+            self.assertEqual(len(content) // 2, 19 if len(places) == 2 else 15)
+        self.modules(1)
+        self.work(1, 9)
+        self.assertEqual(self.asked()[1:], ["020004" + "01000000" + "0000000000000102"], "relay 10 went with its module")
+
+    def test_type_1_is_as_it_was(self):
+        """M-102, 6: 97 bytes, relays 1 to 8."""
+        before = self.asked()[0]
+        self.modules(1, 2)
+        self.work(1, 9)
+        self.work(1, 16)
+        self.assertEqual(self.asked()[0], before)
+        self.assertEqual(len(before) // 2, 97)
+
+    def test_it_only_goes_out(self):
+        """Like type 1: 8, at every rank and whatever is filled."""
+        self.box.open(1, 0)
+        for places in self.PRESENT:
+            self.modules(*places)
+            for content in ("02", "020000", "020004" + "00" * 12):
+                self.assertEqual((self.told(content), self.told(content, 1)), ((NOT_OFFERED, 0), (NOT_OFFERED, 0)))
+
+    # -- marks -------------------------------------------------------------------------------------
+
+    def test_openings(self):
+        """M-102, 4: as type 1, where a module is present."""
+        for places in self.PRESENT:
+            self.modules(*places)
+            for rank in range(3):
+                self.box.close(1)
+                self.box.open(1, rank)
+                self.assertEqual(self.marks(1), (int(rank > 0), int(rank > 0 and places != ())), (places, rank))
+                self.assertEqual(self.marks(0), (0, 0))
+            self.assertEqual((self.box.open(1, 2), self.box.open(2, 3), self.box.open(4, 2)), (ALREADY_OPEN, BAD_RANK, NO_CONNECTION))
+
+    def test_changes(self):
+        """M-102, 4 and 6: a level or a relay from 1 to 8 marks both, one from 9 on type 2 alone; without a module there is no type 2."""
+        for places, present in self.PRESENT.items():
+            self.modules(*places)
+            second = int(places != ())
+            for k in (1, 8):
+                for level in (1, 0):
+                    self.nothing_due()
+                    self.box.level(k, level)
+                    self.assertEqual(self.marks(), (1, second), (places, k))
+            for channel in (1, 8, *present):
+                for action in (1, 3, 3, 2):
+                    self.nothing_due()
+                    self.work(action, channel)
+                    self.assertEqual(self.marks(), (int(channel <= 8), second), (places, channel, action))
+            self.nothing_due()
+            self.answer("0A0A8080")
+            self.assertEqual(self.marks(), (1, second))
+            self.nothing_due()
+            self.write((RELAY_IDS[7], "0100"))
+            self.assertEqual(self.marks(), (1, second))
+
+    def test_no_change_no_mark(self):
+        """M-102, 4: what is so already, and what is neither level nor relay."""
+        self.modules(1, 2)
+        self.work(1, 9)
+        self.box.level(1, 1)
+        self.nothing_due()
+        for content in ("0A010009", "0A020010", "0A020001", "0A050001", "0A080001", "0A090001", "0A0AFF00", "0A0A00FF",
+                        "0700000000000000AA"):
+            self.assertEqual(self.answer(content), SERVED)
+        self.box.level(1, 1)
+        self.box.pass_(5)
+        self.write((DECK_IDS[0], "0100"), (INPUT_IDS[0], "0700000001"))
+        self.assertEqual(self.marks(), (0, 0))
+
+    def test_whom_a_change_marks(self):
+        """M-102, 4: those whom it marks in type 1: open, rank 1 or 2, Monitor on, the sender too."""
+        self.box.fill(2)
+        for c, rank in ((1, 1), (2, 0), (3, 2)):
+            self.box.open(c, rank)
+        self.answer("050004", 3)
+        self.nothing_due()
+        self.work(1, 16)
+        self.assertEqual([self.marks(c) for c in range(4)], [(0, 1), (0, 1), (0, 0), (0, 0)])
+        self.box.level(1, 1)
+        self.assertEqual([self.marks(c) for c in range(4)], [(1, 1), (1, 1), (0, 0), (0, 0)])
+        self.box.close(1)
+        self.work(2, 16)
+        self.assertEqual([self.marks(c) for c in range(4)], [(1, 1), (0, 0), (0, 0), (0, 0)])
+
+    def test_filling_marks_nothing(self):
+        """M-102, 4: it is no change, and what changed before it is not told afterwards."""
+        self.box.level(1, 1)
+        self.assertEqual(self.marks(), (1, 0))
+        for place in (1, 2):
+            self.box.fill(place)
+            self.assertEqual(self.marks(), (1, 0))
+        self.assertEqual(self.types(self.collected()), ["01"])
+        self.modules()
+        self.modules(1, 2)
+        self.assertEqual(self.marks(), (0, 0))
+
+    def test_emptying_one_of_two(self):
+        """M-102, 8 and 4: a change if one of its own relays was closed, of type 2 alone; what was due stays due."""
+        for place, channel, other in ((1, 12, 13), (2, 13, 12)):
+            for closed, marks in (((), (0, 0)), ((other,), (0, 0)), ((channel,), (0, 1)), ((channel, other), (0, 1))):
+                self.modules(1, 2)
+                for k in closed:
+                    self.work(1, k)
+                self.nothing_due()
+                self.box.empty(place)
+                self.assertEqual(self.marks(), marks, (place, closed))
+                self.modules()
+        self.modules(1, 2)
+        self.box.level(1, 1)
+        self.box.empty(1)
+        self.assertEqual(self.marks(), (1, 1))
+
+    def test_emptying_the_last(self):
+        """M-102, 4: no mark of type 2 is left on any connection, its own change's neither; those of type 1 stay."""
+        for c, rank in ((1, 1), (2, 0), (3, 2)):
+            self.box.open(c, rank)
+        for place in (1, 2):
+            for closed in ((), (PLACES[place][0],)):
+                self.modules(place)
+                self.nothing_due()
+                self.box.level(1, 1 - self.box.inputs[0].level)
+                for k in closed:
+                    self.work(1, k)
+                self.assertEqual([self.marks(c) for c in range(4)], [(1, 1), (1, 1), (0, 0), (1, 1)])
+                self.box.empty(place)
+                self.assertEqual([self.marks(c) for c in range(4)], [(1, 0), (1, 0), (0, 0), (1, 0)])
+                self.assertEqual(self.types(self.collected()), ["01"])
+                self.box.fill(place)
+                self.assertEqual(self.marks(), (0, 0), "nor does it come back")
+
+    def test_a_pulse_marks(self):
+        """M-102, 4, and M-100, 3: each beginning and each end that changes a relay."""
+        self.box.fill(1)
+        for channel, marks in ((9, (0, 1)), (12, (0, 1)), (8, (1, 1))):
+            self.nothing_due()
+            self.pulse(channel, 2)
+            self.assertEqual(self.marks(), marks)
+            self.nothing_due()
+            self.box.pass_(1)
+            self.assertEqual(self.marks(), (0, 0))
+            self.box.pass_(1)
+            self.assertEqual(self.marks(), marks)
+        self.work(1, 9)
+        self.nothing_due()
+        self.pulse(9, 2)
+        self.box.pass_(2)
+        self.assertEqual(self.marks(), (0, 0), "closed before, meanwhile and after")
+
+    # -- collections and requests ------------------------------------------------------------------
+
+    def due_just(self, first, second):
+        """These two marks, with place 2 filled.  Type 1 alone is due where the level changed before."""
+        self.modules(*() if first and not second else (2,))
+        self.nothing_due()
+        if first:
+            self.box.level(1, 1 - self.box.inputs[0].level)
+        elif second:
+            self.work(3, 16)
+        self.box.fill(2)
+        self.assertEqual(self.marks(), (first, second))
+
+    def test_collections(self):
+        """M-102, 7: what is due, type 1 before type 2, each in its frame; then nothing is."""
+        for first, second, types, length in ((0, 0, [], 0), (1, 0, ["01"], 102), (0, 1, ["02"], 20), (1, 1, ["01", "02"], 122)):
+            self.due_just(first, second)
+            self.assertEqual((self.box.collect(0, 4095), self.marks()), ((SHORT_BUFFER, b""), (first, second)))
+            answer, reply = self.box.collect(0, 4096)
+            self.assertEqual((answer, len(reply), self.marks()), (SERVED if types else WAITING, length, (0, 0)))
+            self.assertEqual(self.types(self.contents(reply)), types)
+        self.modules(1, 2)
+        self.box.level(1, 1 - self.box.inputs[0].level)
+        self.assertEqual(len(self.box.collect(0, 4096)[1]), 126)
+
+    def test_a_collection_shows_what_is_so_now(self):
+        """Events, 7, of type 2 as well: one message for all that changed."""
+        self.box.fill(1)
+        self.work(1, 9)
+        self.box.pass_(3)
+        self.work(2, 9)
+        self.work(1, 12)
+        self.box.pass_(4)
+        self.assertEqual(self.collected(), ["020004" + "00000001" + "0000000000000007"])
+        self.work(3, 12)
+        self.box.fill(2)
+        self.assertEqual(self.collected(), ["020008" + "00" * 8 + "0000000000000007"], "eight by now, though it was due with four")
+
+    def test_request_1(self):
+        """M-102, 7: both while a module is present, due or not, with Monitor on or off; all marks stay."""
+        for first in (0, 1):
+            for second in (0, 1):
+                self.due_just(first, second)
+                self.assertEqual((self.types(self.asked()), self.marks()), (["01", "02"], (first, second)))
+        self.answer("050004")
+        self.assertEqual((self.types(self.asked()), self.marks()), (["01", "02"], (0, 0)))
+        for places in self.PRESENT:
+            self.modules(*places)
+            self.assertEqual(self.types(self.asked()), ["01", "02"] if places else ["01"])
+        reply = self.box.bytes_(0, 4096, traces.framed(bytes.fromhex("05000100000000")))[3]
+        self.assertEqual((len(reply), self.types(self.contents(reply))), (126, ["01", "02"]), "with its interval")
+
+    def test_other_requests(self):
+        """M-102, 7: requests 0 and 2 have their one reply."""
+        self.modules(1, 2)
+        self.assertEqual(self.content("050000"), (SERVED, "060000000000000000"))
+        self.assertEqual(len(self.content("050002")[1]) // 2, 137)
+
+    def test_requests_4_and_5(self):
+        """M-102, 7: 4 clears both marks, and nothing marks until 5, which leaves both as they are."""
+        for first in (0, 1):
+            for second in (0, 1):
+                self.due_just(first, second)
+                self.assertEqual((self.content("050005"), self.marks()), ((SERVED, ""), (first, second)))
+                self.assertEqual((self.content("050004"), self.marks()), ((SERVED, ""), (0, 0)))
+                self.box.level(2, 1 - self.box.inputs[1].level)
+                self.work(3, 16)
+                self.assertEqual(self.marks(), (0, 0))
+                self.assertEqual((self.content("050005"), self.marks()), ((SERVED, ""), (0, 0)))
+                self.work(3, 16)
+                self.assertEqual(self.marks(), (0, 1))
+
+    # -- a module goes -----------------------------------------------------------------------------
+
+    def test_removed_relays_are_open(self):
+        """M-102, 8: those of the module that went, at once, and when it comes back; no others."""
+        for place, deck in ((1, "00001111"), (2, "11110000")):
+            self.modules(1, 2)
+            for channel in (8, *range(9, 17)):
+                self.work(1, channel)
+            self.box.empty(place)
+            self.assertEqual((self.deck(), self.relays()), (deck, "10000000"))
+            self.box.fill(place)
+            self.assertEqual(self.deck(), deck)
+            self.assertEqual((self.work(3, PLACES[place][3]), self.deck().count("1")), (SERVED, 5))
+
+    def test_running_pulse_loses_them(self):
+        """M-102, 8: it runs on without relays for its time, then the next begins; the module that is back is not touched by it."""
+        self.box.fill(1)
+        self.pulse(9, 5)
+        self.pulse(1, 2)
+        self.box.pass_(2)
+        self.assertEqual((self.deck(), self.queue()), ("10000000", "2 256,256,3 1,1,2 was 0"))
+        self.box.empty(1)
+        self.assertEqual((self.deck(), self.queue()), ("00000000", "2 0,0,3 1,1,2 was 0"))
+        self.box.fill(1)
+        self.work(1, 9)
+        self.assertEqual(self.queue(), "2 0,0,3 1,1,2 was 0")
+        self.box.pass_(2)
+        self.assertEqual((self.deck(), self.relays()), ("10000000", "00000000"))
+        self.box.pass_(1)
+        self.assertEqual((self.deck(), self.relays(), self.queue()), ("10000000", "00000001", "1 1,1,2 was 0"))
+
+    def test_a_closed_relay_pulsed_does_not_come_back_closed(self):
+        """M-102, 8: it was closed at the pulse's beginning, and is in no mask at its end."""
+        self.box.fill(1)
+        self.work(1, 9)
+        self.pulse(9, 5)
+        self.assertEqual(self.queue(), "1 256,256,5 was 256")
+        self.modules()
+        self.modules(1)
+        self.assertEqual(self.queue(), "1 0,0,5 was 0")
+        self.nothing_due()
+        self.box.pass_(5)
+        self.assertEqual((self.deck(), self.queue(), self.marks()), ("00000000", "0", (0, 0)))
+
+    def test_waiting_pulses_lose_them(self):
+        """M-102, 8: each that waits, and of the masks those relays alone; places and times stay, also over a return."""
+        self.modules(1, 2)
+        for channel in (1, 12, 13, 9, 16, 8, 10):
+            self.assertEqual(self.pulse(channel, channel), SERVED)
+        self.assertEqual(self.queue(), "7 1,1,1 2048,2048,12 4096,4096,13 256,256,9 32768,32768,16 128,128,8 512,512,10 was 0")
+        self.box.empty(1)
+        emptied = "7 1,1,1 0,0,12 4096,4096,13 0,0,9 32768,32768,16 128,128,8 0,0,10 was 0"
+        self.assertEqual(self.queue(), emptied)
+        self.box.fill(1)
+        self.assertEqual(self.queue(), emptied)
+        self.box.empty(2)
+        self.assertEqual(self.queue(), "7 1,1,1 0,0,12 0,0,13 0,0,9 0,0,16 128,128,8 0,0,10 was 0")
+        self.box.pass_(1 + 12 + 13 + 9 + 16)
+        self.assertEqual((self.relays(), self.deck(), self.queue()), ("10000000", "00000000", "2 128,128,8 0,0,10 was 0"))
+
+    def test_pulses_of_other_relays_go_on(self):
+        """M-102, 8: a running block of relays 1 to 8 and one of the other module return as if nothing had been."""
+        self.modules(1, 2)
+        self.work(1, 1)
+        self.answer("0A07030200000005")
+        self.pulse(16, 5)
+        self.box.empty(1)
+        self.assertEqual((self.relays(), self.queue()), ("00000010", "2 3,2,5 32768,32768,5 was 1"))
+        self.box.pass_(5)
+        self.assertEqual((self.relays(), self.deck(), self.queue()), ("00000001", "00000001", "1 32768,32768,5 was 0"))
+        self.box.empty(1)
+        self.box.pass_(5)
+        self.assertEqual((self.relays(), self.deck(), self.queue()), ("00000001", "00000000", "0"))
+
+    def test_a_pulse_without_relays_keeps_its_place(self):
+        """M-102, 8: 31 of relay 9 stand, with its module and without: there is room for another only behind an end."""
+        self.box.fill(1)
+        self.assertEqual([self.pulse(9, 1) for _ in range(31)], [SERVED] * 31)
+        self.box.empty(1)
+        self.assertEqual(self.queue(), "31" + " 0,0,1" * 31 + " was 0")
+        self.assertEqual(self.pulse(1, 1), QUEUE_FULL)
+        self.box.pass_(1)
+        self.assertEqual((self.pulse(1, 1), self.pulse(1, 1)), (SERVED, QUEUE_FULL))
+        self.box.pass_(30)
+        self.assertEqual((self.relays(), self.queue()), ("00000001", "1 1,1,1 was 0"))
+
+    def test_a_pulse_of_a_module(self):
+        """M-102, 2: as one of any other relay: first come first run, and back to what it was at its beginning."""
+        self.modules(1, 2)
+        self.work(1, 16)
+        self.pulse(9, 2)
+        self.pulse(16, 3)
+        self.assertEqual((self.deck(), self.queue()), ("10000001", "2 256,256,2 32768,32768,3 was 0"))
+        self.box.pass_(2)
+        self.assertEqual((self.deck(), self.queue()), ("00000001", "1 32768,32768,3 was 32768"))
+        self.work(2, 16)
+        self.work(1, 9)
+        self.box.pass_(2)
+        self.assertEqual(self.deck(), "10000000")
+        self.box.pass_(1)
+        self.assertEqual((self.deck(), self.queue()), ("10000001", "0"))
+
+    # -- IDs ---------------------------------------------------------------------------------------
+
+    def test_ids(self):
+        """M-102, 9: in hexadecimal steps, so that relay 10 has 0A and relay 16 has 10."""
+        self.assertEqual(DECK_IDS, (0x0109FF, 0x010AFF, 0x010BFF, 0x010CFF, 0x010DFF, 0x010EFF, 0x010FFF, 0x0110FF))
+
+    def test_listed_when_present(self):
+        """M-102, 9: as internal outputs, behind relays 1 to 8; flag 2, for external devices, finds none."""
+        first = [*INPUT_IDS, *RELAY_IDS]
+        for places, present in self.PRESENT.items():
+            self.modules(*places)
+            ids = first + [65536 + 256 * k + 255 for k in present]
+            listed = f"{len(ids):04X}" + "".join(f"{id:016X}" for id in ids)
+            self.assertEqual(self.content("1A01"), (SERVED, "1B01" + listed))
+            self.assertEqual(self.content("1A02"), (SERVED, "1B020000"))
+            self.assertEqual(self.content("1A03"), (SERVED, "1B03" + listed))
+
+    def test_read_blocks_are_empty(self):
+        """M-102, 9: present or not, closed or open; the others' are as ever."""
+        for places, present in self.PRESENT.items():
+            self.modules(*places)
+            for channel in present:
+                self.work(1, channel)
+            self.assertEqual([self.read(id) for id in DECK_IDS], [""] * 8)
+        reply = self.content("150003" + f"{DECK_IDS[0]:016X}{RELAY_IDS[0]:016X}{DECK_IDS[0]:016X}")
+        none, block = f"{DECK_IDS[0]:016X}0000", f"{RELAY_IDS[0]:016X}000A" + "00" * 10
+        self.assertEqual(reply, (SERVED, "160003" + none + block + none))
+
+    def test_write_entries_fail(self):
+        """M-102, 9: each alone: it is not counted, changes nothing and marks nothing; those beside it are done."""
+        for places in self.PRESENT:
+            self.modules(*places)
+            self.nothing_due()
+            before = self.box.state()
+            for id in DECK_IDS:
+                for block in ("", "00", "02", "0101", "0100", "0301", "0002", "0200000001"):
+                    self.assertEqual(self.write((id, block)), 0, (id, block))
+            self.assertEqual(self.box.state(), before)
+            self.assertEqual(self.write((DECK_IDS[0], "0101"), (RELAY_IDS[0], "0101"), (DECK_IDS[7], "0101"), (RELAY_IDS[0], "0100")), 2)
+            self.assertEqual((self.relays(), self.deck(), self.marks()), ("00000000", "00000000", (1, int(places != ()))))
+
+    # -- everywhere --------------------------------------------------------------------------------
+
+    def held(self, box):
+        """What is so of a box from power-up on, whatever came."""
+        present = [*range(1, 9), *box.deck()]
+        for k, relay in enumerate(box.relays, 1):
+            self.assertTrue(k in present or relay.state == 0, "M-102, 8: what is not there is open")
+            self.assertTrue(k <= 8 or relay.usage == relay.usage_setpoint == 0)
+        self.assertLessEqual(len(box.queue), PULSES, "M-100, 2")
+        for pulse in box.queue:
+            self.assertEqual(pulse.mask & ~sum(1 << k - 1 for k in present), 0, "M-102, 8: and in no mask")
+            self.assertEqual(pulse.states & ~pulse.mask, 0)
+        for conn in box.connections:
+            self.assertTrue(conn.due2 == 0 or box.filled, "M-102, 4: due only while a module is present")
+            self.assertTrue(conn.due == conn.due2 == 0 or conn.open and conn.rank and conn.monitor, "Events, 6")
+        self.assertLessEqual(box.filled, {1, 2})
+
+    def test_in_traces(self):
+        for trace in traces.many("deck", 10000):
+            box = Box()
+            for line in trace.lines:
+                box.line(line)
+                self.held(box)
+
+    def test_faults_that_break_it_are_found(self):
+        """Otherwise the check above would show nothing."""
+        for name in ("removed relays stay closed", "running pulse keeps removed relays", "waiting pulses keep removed relays",
+                     "the last emptying leaves the marks", "type 2 marked without a module", "type 2 marked at rank 0",
+                     "channels without their module served", "usage of relays 9 to 16 grows",
+                     "states shown of relays that left the mask"):
+            box_class, found = MUTANTS[name], False
+            for trace in traces.many("deck", 10000):
+                box = box_class()
+                for line in trace.lines:
+                    box.line(line)
+                    try:
+                        self.held(box)
+                    except AssertionError:
+                        found = True
+                        break
+                if found:
+                    break
+            self.assertTrue(found, name)
+
+    def test_replay_lines(self):
+        """The answer number alone; the row's length may be left out."""
+        for line, printed in (("fill 1", "1"), ("fill 1 31", "1"), ("fill 2 30", "4"), ("fill 3 30", "4"), ("fill 3", "11"),
+                              ("fill 0 64", "11"), ("bytes 0 4096 010004FFFF0A010009", "1 9 0 0 -"),
+                              ("bytes 0 4096 010004FFFF0A01000D", "11 9 0 0 -"), ("fill 2 64", "1"),
+                              ("bytes 0 4096 010004FFFF0A01000D", "1 9 0 0 -"), ("empty 1 0", "4"), ("empty 2", "1"),
+                              ("collect 0 4096", "1 20 01000F4671020004010000000000000000000000"), ("empty 1 31", "1"), ("empty 1", "1"),
+                              ("collect 0 4096", "0 0 -"), ("fill 1 65", "?"), ("fill", "?"), ("empty 256", "?")):
+            self.assertEqual(self.box.line(line), printed, line)
+
+
 class Strict(Case):
     """02, M-103.  Connection 1 is strict, connection 0 is not; both are at rank 2."""
 
@@ -1469,14 +2108,14 @@ class TimeByTheMs(unittest.TestCase):
         def pass_(self, d, row=PULSES):
             return self.pass_by_ms(d, row)
 
-    CONTENTS = ("0A01000{k}", "0A02000{k}", "0A03000{k}", "0A09000{k}", "0A0A{a:02X}{b:02X}", "07{top:016X}",
+    CONTENTS = ("0A01{k:04X}", "0A02{k:04X}", "0A03{k:04X}", "0A09{k:04X}", "0A0A{a:02X}{b:02X}", "07{top:016X}",
                 "17000100000000000{id:05X}000201{bit:02X}")
 
     def lines(self, rng):
         """Pulses and passes for the most part, so that queues of many lengths and many ends in one pass occur; often
         with nothing due before, so that a mark is seen."""
-        for _ in range(40):
-            kind = rng.randrange(14)
+        for _ in range(46):
+            kind = rng.randrange(16)
             if kind < 5:
                 mask = rng.choice((0, 1, 3, 255, rng.randrange(256)))
                 yield self.message(f"0A07{mask:02X}{rng.randrange(256):02X}{rng.choice((1, 1, 2, 3, rng.randrange(1, 9))):08X}", rng)
@@ -1484,10 +2123,14 @@ class TimeByTheMs(unittest.TestCase):
                 yield f"pass {rng.choice((0, 1, 2, 3, rng.randrange(30)))}"
             elif kind < 9:
                 yield self.message(rng.choice(self.CONTENTS).format(
-                    k=rng.randrange(1, 9), a=rng.randrange(256), b=rng.randrange(256), top=TOP64 - rng.randrange(9),
+                    k=rng.randrange(1, 17), a=rng.randrange(256), b=rng.randrange(256), top=TOP64 - rng.randrange(9),
                     id=0x0101FF + 0x100 * rng.randrange(8), bit=rng.randrange(2)), rng)
             elif kind < 10:
                 yield f"level {rng.randrange(1, 9)} {rng.randrange(2)}"
+            elif kind < 11:
+                yield self.message(f"0A06{rng.randrange(1, 17):04X}{rng.randrange(1, 9):08X}", rng)
+            elif kind < 12:
+                yield f"{rng.choice(('fill', 'fill', 'empty'))} {rng.randrange(1, 3)}"
             else:
                 yield from ("collect 0 4096", "collect 1 4096")
 
@@ -1498,9 +2141,9 @@ class TimeByTheMs(unittest.TestCase):
         """What the box prints for a run, and its state after each line."""
         rng = random.Random(seed)
         box = box_class()
-        for line in ("open 0 2", "open 1 1", "open 2 0", "open 3 2", "bytes 3 4096 010003FFFF050004"):
+        for line in ("open 0 2", "open 1 1", "open 2 0", "open 3 2", "bytes 3 4096 010003FFFF050004", f"fill {rng.randrange(1, 3)}"):
             box.line(line)
-        for device in box.inputs + box.relays:
+        for device in box.inputs + box.internal():
             device.usage = rng.choice((0, TOP64 - rng.randrange(20)))
         return [(line, box.line(line), box.state()) for line in self.lines(rng)]
 
@@ -1515,7 +2158,7 @@ class TimeByTheMs(unittest.TestCase):
         for name in ("a pass ends one pulse at most", "only the last pulse of a long pass ends",
                      "all ends and beginnings of a pass as one change", "usage of a whole pass by the states before it",
                      "the rest of a pass after an end is lost to the next pulse"):
-            self.assertGreater(len(self.differing(MUTANTS[name], 20)), 5, name)
+            self.assertGreater(len(self.differing(MUTANTS[name], 60)), 5, name)
 
     def test_runs_end_many_pulses_in_one_pass(self):
         """None, one, and many: otherwise the runs would show nothing."""
@@ -1532,6 +2175,29 @@ class TimeByTheMs(unittest.TestCase):
         for seed in range(self.RUNS):
             self.run_of(seed, Counting)
         self.assertGreater(min(ends.values()), 100, ends)
+
+    def test_runs_pulse_modules(self):
+        """M-102: pulses of relays that are there begin and end, and others lose theirs while they stand."""
+        seen = Counter()
+
+        class Counting(Box):
+            def begin(self):
+                super().begin()
+                seen["begun"] += self.queue[0].mask > 0xFF
+
+            def end(self):
+                seen["ended"] += self.queue[0].mask > 0xFF
+                super().end()
+
+            def remove(self, place):
+                masks = [pulse.mask for pulse in self.queue]
+                super().remove(place)
+                seen["lost"] += masks != [pulse.mask for pulse in self.queue]
+
+        for seed in range(self.RUNS):
+            self.run_of(seed, Counting)
+        self.assertGreater(min(seen.values()), 10, seen)
+        self.assertEqual(len(seen), 3)
 
 
 class Tools(unittest.TestCase):
@@ -1563,6 +2229,135 @@ class Tools(unittest.TestCase):
                      (0, False, True, True), (0, False, False, False), (0, True, False, True), (0, True, True, True)):
             self.assertGreater(seen[kind], 30, kind)
         self.assertNotIn((1, True, False, True), seen)
+
+    def deck_in(self, events):
+        """How often each situation of M-102 occurs in traces of so many events."""
+        seen = Counter()
+
+        def present(box, id):
+            return "present" if id in box.deck_ids() else "absent"
+
+        def where(box, channel):
+            if 1 <= channel <= 16:
+                return len(box.filled), "1 to 8" if channel <= 8 else "present" if channel in box.deck() else "absent"
+            return "any", "above 16" if channel else "0"
+
+        class Counting(Box):
+            closed = frozenset()
+
+            def fill(self, place, row=PULSES):
+                known = place if place in PLACES else "other"
+                seen["fill", known, place in self.filled, row < PULSES] += 1
+                before = set(self.filled)
+                answer = super().fill(place, row)
+                if self.filled != before and place in self.closed:
+                    seen["back with relays that were closed"] += 1
+                return answer
+
+            def empty(self, place, row=PULSES):
+                known = place if place in PLACES else "other"
+                seen["empty", known, place in self.filled, row < PULSES] += 1
+                return super().empty(place, row)
+
+            def remove(self, place):
+                mask = sum(1 << k - 1 for k in PLACES[place])
+                closed, which = self.relay_states() & mask != 0, "last" if len(self.filled) == 1 else "one of two"
+                told = [conn for conn in self.connections if conn.rank and conn.monitor]
+                seen["removed", which, closed, "due"] += any(conn.due2 for conn in told)
+                seen["removed", which, closed, "not due"] += any(not conn.due2 for conn in told)
+                for k, pulse in enumerate(self.queue):
+                    of = "its own" if pulse.mask & mask else "the other's" if pulse.mask > 0xFF else "1 to 8" if pulse.mask else "none"
+                    seen["removed under a pulse", "running" if k == 0 else "waiting", of] += 1
+                if self.remembered & self.queue[0].mask & mask if self.queue else False:
+                    seen["removed under a pulse that found it closed"] += 1
+                self.closed = self.closed - {place} | ({place} if closed else frozenset())
+                super().remove(place)
+
+            def judge_channel(self, action, channel):
+                seen["action", action, *where(self, channel)] += 1
+                super().judge_channel(action, channel)
+
+            def pulse(self, mask, states, duration):
+                super().pulse(mask, states, duration)
+                seen["pulse of a module", "begins" if len(self.queue) == 1 else "waits"] += mask > 0xFF
+
+            def end(self):
+                seen["end of a module's pulse", "closed" if self.remembered & self.queue[0].mask else "open"] += self.queue[0].mask > 0xFF
+                super().end()
+
+            def open(self, c, rank, strict=0):
+                answer = super().open(c, rank, strict)
+                seen["opened", rank, len(self.filled)] += answer == SERVED
+                return answer
+
+            def collect(self, c, cap):
+                if self.is_open(c) and cap >= 4096:
+                    conn = self.connections[c]
+                    seen["collected", conn.due, conn.due2, len(self.filled)] += 1
+                return super().collect(c, cap)
+
+            def request(self, conn, fields):
+                due, due2, on = conn.due, conn.due2, conn.monitor
+                answer = super().request(conn, fields)
+                asked = number(fields.content[1:3])
+                seen["request", asked, due, due2, "module" if self.filled else "none"] += 1
+                seen["request 1", "on" if on else "off", len(self.filled)] += asked == 1
+                return answer
+
+            def enumerate_devices(self, conn, fields):
+                answer = super().enumerate_devices(conn, fields)
+                seen["enumeration", fields.content[1], tuple(sorted(self.filled))] += 1
+                return answer
+
+            def read_block(self, id):
+                seen["read", present(self, id)] += id in DECK_IDS
+                return super().read_block(id)
+
+            def write_entry(self, id, block):
+                right = len(block) in (1, 2) and block[0] < 4
+                seen["write", present(self, id), right] += id in DECK_IDS
+                return super().write_entry(id, block)
+
+            def changed(self, internal=True):
+                seen["change", internal, len(self.filled)] += 1
+                super().changed(internal)
+
+        for trace in traces.many("deck", events):
+            box = Counting()
+            for line in trace.lines:
+                box.line(line)
+        return seen
+
+    def test_second_deck_in_traces(self):
+        """Places filled and emptied, again, others and with short rows; channels and pulses of relays that are there and that are not;
+        modules that go from under pulses; each combination of the two marks at openings, requests and collections; the IDs.  Otherwise
+        the traces would show nothing."""
+        seen = self.deck_in(40000)
+        marks = [(due, due2) for due in (0, 1) for due2 in (0, 1)]
+        kinds = [(event, place, filled, short) for event in ("fill", "empty") for place in (1, 2) for filled in (False, True)
+                 for short in (False, True)]
+        kinds += [(event, "other", False, short) for event in ("fill", "empty") for short in (False, True)]
+        kinds += [("removed", which, closed, due) for which in ("last", "one of two") for closed in (False, True)
+                  for due in ("due", "not due")]
+        kinds += [("removed under a pulse", which, of) for which in ("running", "waiting")
+                  for of in ("its own", "the other's", "1 to 8", "none")]
+        kinds += ["removed under a pulse that found it closed", "back with relays that were closed"]
+        kinds += [("action", action, filled, of) for action in (1, 2, 3, 6, 5, 8, 9) for filled, of in (
+            (0, "1 to 8"), (0, "absent"), (1, "1 to 8"), (1, "present"), (1, "absent"), (2, "1 to 8"), (2, "present"), ("any", "0"),
+            ("any", "above 16"))]
+        kinds += [("pulse of a module", "begins"), ("pulse of a module", "waits")]
+        kinds += [("end of a module's pulse", "closed"), ("end of a module's pulse", "open")]
+        kinds += [("opened", rank, filled) for rank in (0, 1, 2) for filled in (0, 1, 2)]
+        kinds += [("collected", due, due2, filled) for due, due2 in marks for filled in (0, 1, 2) if filled or not due2]
+        kinds += [("request", request, due, due2, of) for request in (1, 4, 5) for due, due2 in marks for of in ("module", "none")
+                  if of == "module" or not due2]
+        kinds += [("request 1", on, filled) for on in ("on", "off") for filled in (0, 1, 2)]
+        kinds += [("enumeration", flags, places) for flags in (1, 2, 3) for places in ((), (1,), (2,), (1, 2))]
+        kinds += [("read", "present"), ("read", "absent")]
+        kinds += [("write", of, right) for of in ("present", "absent") for right in (False, True)]
+        kinds += [("change", internal, filled) for internal in (False, True) for filled in (0, 1, 2)]
+        for kind in kinds:
+            self.assertGreater(seen[kind], 2, kind)
 
     def ends_in(self, events):
         """How often contents of a wrong length occur in traces of so many events: of each type and answer by where they end."""
@@ -1666,6 +2461,17 @@ class Tools(unittest.TestCase):
             self.assertNotEqual(play(lines), hold.expected_of(lines))
             self.assertEqual([line.split(" ")[0] for line in lines], ["open", "bytes"], lines)
             self.assertEqual(len(lines[-1].split(" ")[3]), len(shortest), lines)
+
+
+    def test_shrinker_of_places(self):
+        """A fault that an opening, a filling and a command show; the row's length is left out where it does not matter."""
+        def play(lines):
+            box = MUTANTS["channel 13 served where place 1 alone is filled"]()
+            return [box.line(line) for line in lines]
+
+        lines = ["open 0 2 0", "fill 2 64", "empty 2 31", "fill 1 32", "empty 1 30", "level 1 1", "bytes 0 4096 010004FFFF0A01000D 31",
+                 "state"]
+        self.assertEqual(hold.Shrinker(play, 3000).shrink(lines), ["open 0 2", "fill 1", "bytes 0 4096 010004FFFF0A01000D"])
 
 
 if __name__ == "__main__":

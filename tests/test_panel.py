@@ -1,5 +1,6 @@
 #!/usr/bin/env python3
-"""The panel over HTTP, against the host: what it shows, its buttons, its pulses, who may press them, and what it says when the box is gone.
+"""The panel over HTTP, against the host: what it shows, its buttons, its pulses, the second deck, who may press them, and what it says when the
+box is gone.
 
     python3 tests/test_panel.py
 
@@ -20,8 +21,8 @@ import time
 import unittest
 
 from answers import ALREADY_OPEN, BAD_CHECKSUM, BAD_RANK, BY_NAME, QUEUE_FULL, TOO_LONG
-from boxd import (Boxd, CLOCK, Client, HOW_MANY, LAST_REFUSED, MONITOR, PATIENCE, PROGRAM, Program, ROOT, custom_answer, frame, pulse, refused,
-                  unchecked)
+from boxd import (Boxd, CLOCK, Client, HOW_MANY, LAST_REFUSED, MONITOR, PATIENCE, PROGRAM, Program, ROOT, command, custom_answer, frame, pulse,
+                  refused, unchecked)
 from model import Box, RELAY_IDS, field, number
 
 sys.path.insert(0, os.path.join(ROOT, "host"))
@@ -74,11 +75,13 @@ class Panel(Program):
 class Plain:
     """A box whose host answers nothing of its own but to those messages that are given: the model on a socket, for one client."""
 
-    def __init__(self, own=None):
+    def __init__(self, own=None, modules=()):
         self.own = own or {}
         self.listener = socket.create_server(("127.0.0.1", 0))
         self.port = self.listener.getsockname()[1]
         self.box = Box()
+        for place in modules:
+            self.box.fill(place)
         self.box.open(0, 2)
         self.thread = threading.Thread(target=self.serve, daemon=True)
         self.thread.start()
@@ -99,6 +102,16 @@ class Plain:
 
 def answers(state):
     return state["answers"]
+
+
+def deck(state):
+    """The second deck as it is shown: each relay, and whether it is closed."""
+    return {relay["relay"]: relay["closed"] for relay in state["deck"]}
+
+
+def shown_open(*relays, closed=()):
+    """A deck with these relays, of which some are closed."""
+    return {k: k in closed for k in relays}
 
 
 def free_port():
@@ -176,7 +189,7 @@ class Case(unittest.TestCase):
             self.assertEqual(host.count("relay 1 is open now"), 1)
             localhost = f"localhost:{panel.port}"
             self.assertEqual(panel.press(2, True, Host=localhost, Origin="http://" + localhost)[0], 200)
-            for body in ("", "{}", "[]", "7", '{"relay":0,"closed":true}', '{"relay":9,"closed":true}', '{"relay":"1","closed":true}',
+            for body in ("", "{}", "[]", "7", '{"relay":0,"closed":true}', '{"relay":17,"closed":true}', '{"relay":"1","closed":true}',
                          '{"relay":true,"closed":true}', '{"relay":1,"closed":1}', "\xff"):
                 status = panel.ask("POST", "/relay", body.encode("latin-1"), Origin=f"http://127.0.0.1:{panel.port}",
                                    Content_Type="application/json")[0]
@@ -226,13 +239,132 @@ class Case(unittest.TestCase):
             panel.wait_until(answers)
             for body in ("", "{}", "[]", '{"relay":1}', '{"ms":5}', '{"relay":1,"ms":0}', '{"relay":1,"ms":-1}', '{"relay":1,"ms":4294967296}',
                          '{"relay":1,"ms":1.5}', '{"relay":1,"ms":"5"}', '{"relay":1,"ms":true}', '{"relay":1,"ms":null}', '{"relay":0,"ms":5}',
-                         '{"relay":9,"ms":5}', '{"relay":true,"ms":5}', "\xff"):
+                         '{"relay":17,"ms":5}', '{"relay":true,"ms":5}', "\xff"):
                 self.assertEqual(panel.post("/pulse", body.encode("latin-1"), {})[0], 400, body)
             self.assertEqual(panel.post("/pulses", '{"relay":1,"ms":5}', {})[0], 404)
             self.assertEqual(panel.pulse(8, 1)[0], 200)
             host.quit()
         self.assertEqual(host.count("asked for a pulse"), 1)
         self.assertEqual(host.count("sent a message of type 10"), 0)
+
+    def module(self, host, panel, line):
+        """A module is plugged in or pulled, and the panel looks at the box at once; the deck that it shows."""
+        before = len(host.lines)
+        host.tell(line)
+        host.wait_for("place [12] is (filled|empty):", before)
+        self.assertEqual(panel.press(1, False)[0], 200)
+        return deck(panel.state())
+
+    def test_second_deck(self):
+        """M-102: the second deck is shown as far as its modules are there, with the states that its relays have, whoever switched them."""
+        with Boxd("--quiet") as host, Panel(host.port) as panel, Client(host.port) as client:
+            self.assertEqual(panel.wait_until(answers)["deck"], [])
+            host.tell("filled 2")
+            host.wait_for("place 2 is filled")
+            client.send(command(1, 15))
+            panel.wait_until(lambda s: deck(s) == shown_open(13, 14, 15, 16, closed=(15,)))         # by itself
+            self.assertEqual(panel.press(13, True)[::2], (200, "Done.\n"))
+            self.assertEqual(panel.press(15, False)[0], 200)
+            self.assertEqual(deck(panel.state()), shown_open(13, 14, 15, 16, closed=(13,)))
+            self.assertEqual(self.module(host, panel, "filled 1"), shown_open(*range(9, 17), closed=(13,)))
+            self.assertEqual(panel.press(9, True)[0], 200)
+            self.assertEqual(panel.pulse(16, 60000)[::2], (200, "The pulse of relay 16, 60000 ms, has begun.\n"))
+            self.assertEqual(deck(panel.state()), shown_open(*range(9, 17), closed=(9, 13, 16)))
+            self.assertEqual(self.module(host, panel, "emptied 2"), shown_open(9, 10, 11, 12, closed=(9,)))
+            state = panel.state()
+            self.assertEqual((state["standing"], [r["closed"] for r in state["relays"]]), (1, [False] * 8))
+            host.tell("emptied 1")
+            panel.wait_until(lambda s: s["deck"] == [])                                             # by itself
+            self.assertEqual(self.module(host, panel, "filled 1"), shown_open(9, 10, 11, 12))
+            host.quit()
+        for said in ("relay 13 is closed now", "relay 15 is open now", "relay 9 is closed now", "asked for a pulse of relay 16, 60000 ms: it has begun"):
+            self.assertEqual(host.count(said), 1, said)
+        self.assertEqual(host.count(refused(r"\d+")), 0)
+
+    def test_absent_relays(self):
+        """M-102: a relay whose module is not there is not even asked for; where the module goes just then, the box refuses it, and the panel says so."""
+        with Boxd("--quiet") as host, Panel(host.port) as panel:
+            panel.wait_until(answers)
+            self.assertEqual(self.module(host, panel, "filled 1"), shown_open(9, 10, 11, 12))
+            count = host.count("commanded")
+            for relay, place in ((13, 2), (16, 2)):
+                for status, _, said in (panel.press(relay, True), panel.pulse(relay, 5)):
+                    self.assertEqual((status, said), (409, f"Relay {relay} is not there: no module stands at place {place}. Plug one in first.\n"))
+            self.assertEqual((host.count("commanded"), host.count("type 10")), (count, 0))
+            for press in (lambda: panel.press(9, True), lambda: panel.pulse(9, 5)):
+                before = len(host.lines)
+                host.tell("emptied 1")
+                host.wait_for("place 1 is empty", before)
+                self.assertEqual(press()[::2], (409, "Relay 9 is not there: no module stands at place 1. Plug one in first.\n"))
+                self.assertEqual(self.module(host, panel, "filled 1"), shown_open(9, 10, 11, 12))
+            host.quit()
+        self.assertEqual(host.count("asked for a pulse"), 0)
+
+    def test_other_deck_after_a_loss(self):
+        """M-102: after the box was gone, the deck is that of the box as it is now."""
+        with Boxd("--quiet") as host, Panel(host.port) as panel:
+            host.tell("filled 1")
+            panel.wait_until(lambda s: deck(s) == shown_open(9, 10, 11, 12))
+            host.process.kill()
+            panel.wait_until(lambda s: not s["answers"])
+            with Boxd("--quiet", port=host.port) as again:
+                again.tell("filled 2")
+                panel.wait_until(lambda s: s["answers"] and deck(s) == shown_open(13, 14, 15, 16))
+                again.quit()
+
+    def test_deck_of_a_plain_box(self):
+        """M-102: the same of a box whose host answers nothing of its own: both messages come in one piece, in answer to request 1."""
+        for modules, relays in (((1,), range(9, 13)), ((2,), range(13, 17)), ((1, 2), range(9, 17))):
+            plain = Plain(modules=modules)
+            with self.subTest(modules), Panel(plain.port) as panel:
+                panel.wait_until(lambda s: deck(s) == shown_open(*relays))
+                self.assertEqual(panel.press(relays[-1], True)[0], 200)
+                self.assertEqual(deck(panel.state()), shown_open(*relays, closed=(relays[-1],)))
+            plain.close()
+
+    def test_frames_behind_each_other(self):
+        """M-102: two frames in one reply are two messages, wherever the network cuts them."""
+        box = Box()
+        box.fill(1)
+        box.open(0, 2)
+        reply = box.collect(0, 4096)[1]
+        for cut in range(len(reply) + 1):
+            stream = program.Stream()
+            self.assertEqual([content[0] for content in stream.feed(reply[:cut]) + stream.feed(reply[cut:])], [1, 2])
+
+    def test_what_tells_the_deck(self):
+        """M-102: which relays are there the list of devices tells, their states type 2; where one of the two is missing, or they do not go together, the
+        deck is not shown otherwise than before, and after a whole round without type 2 not at all.
+        """
+        def listed(*relays):
+            ids = [0x0100FF + 0x100 * k for k in relays]
+            return b"\x1B\x01" + field(len(ids), 2) + b"".join(field(id, 8) for id in ids)
+
+        def external(*states):
+            return b"\x02\x00" + bytes([len(states), *states]) + field(7, 8)
+
+        clock = b"\x06" + field(9, 8)
+        one, two = range(9, 13), range(13, 17)
+        for contents, shown in (
+                ([listed(*range(1, 9), *two), external(0, 1, 0, 0), clock], shown_open(*two, closed=(14,))),
+                ([listed(*one), external(1, 0, 0, 255), clock], shown_open(*one, closed=(9,))),
+                ([listed(*one, *two), external(0, 0, 0, 0, 0, 0, 0, 1), clock], shown_open(*one, *two, closed=(16,))),
+                ([external(0, 1, 0, 0)], {}),                                                       # before any list
+                ([listed(*one), external(*[0] * 8)], {}),                                           # one was pulled and told as both
+                ([listed(*one)], {}),
+                ([listed(*one), external(1, 0, 0, 0), listed(*one, *two)], shown_open(*one, closed=(9,))),
+                ([listed(*one), external(1, 0, 0, 0), listed(*one, *two), external(*[1] * 4)], shown_open(*one, closed=(9,))),
+                ([listed(*one, *two), external(*[1] * 8), listed(*two)], shown_open(*two, closed=two)),
+                ([listed(*one), external(1, 0, 0, 0), listed(*two)], {}),
+                ([listed(*one), external(1, 0, 0, 0), listed()], {}),
+                ([listed(*one), external(1, 0, 0, 0), clock, listed(*one), clock], {}),             # request 1 was answered with type 1 alone
+                ([listed(*one), external(1, 0, 0, 0), clock, listed(*one), external(0, 0, 0, 1), clock], shown_open(*one, closed=(12,))),
+                ([listed(*one), external(1, 0, 0, 0), clock, external(0, 1, 0, 0)], shown_open(*one, closed=(10,)))):
+            box = program.Box(("nowhere", 0))
+            for content in contents:
+                box.take(content)
+            self.assertEqual(deck(box.seen), shown, contents)
+            self.assertEqual([box.closed(k) for k in (8, 9, 16)], [False, shown.get(9), shown.get(16)])
 
     def test_box_that_does_not_tell(self):
         """Where the box's host does not say how many stand, the panel shows none, and does not claim that a pulse was taken."""

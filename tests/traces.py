@@ -317,9 +317,9 @@ class Maker:
         """Filled or emptied; sometimes again, sometimes a place that there is not."""
         chance, place = self.rng.randrange(4), self.pick(*PLACES)
         if chance == 0:
-            self.say(f"{self.pick('fill', 'empty')} {self.bad_place()}{self.row(3)}")
+            self.say(f"{self.pick('fill', 'empty')} {self.bad_place()}{self.row(2)}")
         else:
-            self.say(f"{self.again(place) if chance == 1 else self.turned(place)} {place}{self.row(3)}")
+            self.say(f"{self.again(place) if chance == 1 else self.turned(place)} {place}{self.row(2)}")
 
     def turned(self, place):
         """What changes the place."""
@@ -557,7 +557,7 @@ class Maker:
             return self.rng.randrange(1, 9)
         if chance < 10:
             return self.rng.randrange(9, 17)
-        return self.pick(0, 0, 0, 17, 17, 17, 18, 24, 128, 255, 256, 257, 264, 265, 0x0800, 0x8001, 0xFFFF,
+        return self.pick(0, 0, 0, 0, 0, 17, 17, 17, 18, 24, 255, 256, 257, 264, 265, 0x0800, 0x8001, 0xFFFF,
                          self.rng.randrange(65536))
 
     def block_command(self):
@@ -679,9 +679,9 @@ class Maker:
         return b"\x1A" + bytes([self.pick(1, 1, 2, 2, 3, 3, 0, 4, 5, 128, 129, 255)])
 
     def of_any_type(self):
-        """A content, none too long, of each type as often as of another, of those with a list rather more."""
-        return self.pick(self.long_request, self.clock_setting, self.command_content, self.pulse_content, self.enumerate_content,
-                         self.short_list, self.short_list, self.short_list)()
+        """A content, none too long, of each type as often as of another; rather more clocks, which few ranks may set, and lists."""
+        return self.pick(self.long_request, self.clock_setting, self.clock_setting, self.command_content, self.pulse_content,
+                         self.enumerate_content, self.short_list, self.short_list, self.short_list)()
 
     def long_request(self):
         """A right one with its interval."""
@@ -1025,8 +1025,10 @@ class Maker:
             self.fill_just(*self.pick((), (1,), (2,), (1, 2)))
         same = self.pick(None, self.of_deck(*self.box.filled))
         for _ in range(self.pick(3, 4, 5)):
-            action = self.pick(1, 1, 2, 2, 3, 5, 6, 8, 9)
-            self.work(c, action, same or self.pick(8, 9, 12, 13, 16, 17), self.duration() if action == 6 else None)
+            action = self.pick(1, 1, 2, 2, 2, 3, 5, 6, 8, 9)
+            self.work(c, action, same or self.pick(0, 8, 9, 12, 13, 16, 17), self.duration() if action == 6 else None)
+            if self.one_in(3):
+                self.look(c)
         self.look(c)
 
     def scene_removed(self, c):
@@ -1052,7 +1054,9 @@ class Maker:
         """Pulses of modules' relays and of others; in the middle of them a module goes, and perhaps comes back."""
         place = self.pick(*PLACES)
         self.fill_just(*self.pick((place,), (1, 2), (1, 2)))
-        channels = [self.of_deck(place), self.pick(12, 13, self.of_deck(*self.box.filled)), self.of_deck(place)]
+        beside = 13 if place == 1 else 12
+        channels = [self.of_deck(place), self.pick(beside, self.of_deck(*self.box.filled)), self.of_deck(place)]
+        self.rng.shuffle(channels)
         if self.one_in(2):
             self.work(c, 1, channels[0])
         if self.box.queue and not self.one_in(3):
@@ -1077,7 +1081,8 @@ class Maker:
         """Each of the two Monitor messages due or not; then requests, and they are collected."""
         first, second = self.pick((0, 0), (0, 1), (1, 0), (1, 1))
         self.send(c, b"\x05\x00\x05")
-        self.fill_just(*() if first and not second else self.pick((1,), (2,), (1, 2)))
+        some = self.pick((1,), (2,), (1, 2))
+        self.fill_just(*some if second else () if first else self.pick((), some))
         self.say(f"collect {c} 4096")
         if first:
             k = self.pick(1, 8, self.rng.randrange(1, 9))
@@ -1088,7 +1093,8 @@ class Maker:
             if not second:
                 self.fill_just(*self.pick((), (1,), (2,), (1, 2)))
         elif second:
-            self.work(c, 3, self.of_deck(*self.box.filled))
+            channel = self.of_deck(*self.box.filled)
+            self.work(c, self.pick(3, 1 + self.box.relays[channel - 1].state), channel)
         for _ in range(self.pick(0, 1, 2)):
             self.send(c, b"\x05\x00" + bytes([self.pick(0, 1, 1, 2, 4, 4, 5)]))
             if self.one_in(2):
@@ -1098,12 +1104,16 @@ class Maker:
     def scene_opened_beside_modules(self, c):
         """Opened anew at each rank, with modules and without; then something changes."""
         self.fill_just(*self.pick((), (1,), (2,), (1, 2)))
+        rank = self.pick(0, 1, 2, 2)
         self.say(f"close {c}")
-        self.say(f"open {c} {self.pick(0, 1, 2)}{self.strict()}")
+        self.say(f"open {c} {rank}{self.strict()}")
         self.look(c)
         k = self.rng.randrange(8)
         self.say(f"level {k + 1} {1 - self.box.inputs[k].level}")
         self.look(c)
+        if rank == 0:
+            self.say(f"close {c}")
+            self.open_again(c)
 
     def scene_deck_ids(self, c):
         """Listed, read and written, with modules and without: together with others, which are as ever."""
@@ -1135,7 +1145,7 @@ class Maker:
               scene_pulsed_and_removed, scene_pulsed_and_removed, scene_two_marks, scene_two_marks, scene_opened_beside_modules,
               scene_deck_ids)
 
-    STEPS = ((do_talk, 70), (do_level, 7), (do_pass, 5), (do_collect, 7), (do_open, 6), (do_close, 2.5), (do_state, 5),
+    STEPS = ((do_talk, 74), (do_level, 7), (do_pass, 5), (do_collect, 7), (do_open, 6), (do_close, 2.5), (do_state, 5),
              (do_power, .4), (do_bad_line, 2), (do_place, 2.5), (do_scene, 8.5))
 
     def make(self, events):

@@ -1,6 +1,6 @@
 -- What a reader may say aloud of the devices.
---     as-listed       whatever the number, the formula finds the device that 01's list has for it, or none where the list has none
---     ids-listed      the IDs by the formula, of all devices in the order of their listing, are those of 01's list
+--     as-listed       whatever the number, the formula finds the device that the list of 01 and 02 has for it, or none where the list has none
+--     ids-listed      the IDs by the formula, of all devices in the order of their listing, are those of that list
 --     device-of-id    each device that has an ID is found by it
 --     id-of-device    a device that is found has the ID that it was found by
 use mathlib.Core.Path.{_≡_, refl, sym, ap, _∙_}
@@ -13,7 +13,7 @@ use borrow.Author.Tests.{eqb-true, eqb-false, ne-eqb, le-leb}
 use Rattle.laws.proofs.Tests.{by-cases, within}
 use Rattle.devices.specs.declared.Device.{Device}
 use Rattle.devices.specs.declared.Device.the-variants.{Din, Rout, Unknown}
-use Rattle.devices.specs.Devices.{inputs, relays, isOneOf, inputID, relayID, devices, idOf, deviceOf}
+use Rattle.devices.specs.Devices.{inputs, relays, isOneOf, inputID, relayID, rising, idOf, deviceOf}
 use Rattle.devices.specs.Listed.{listed, listedFor}
 use Rattle.devices.proofs.Finding.{unknown, input-found, relay-found, by-id}
 
@@ -56,7 +56,7 @@ as-listed =
     (λ id n m. unknown id n m ∙ sym (passed inputID Din relayEntries id 1 inputs (λ j a b. n j a (omega (arith, b)))
     ∙ passed relayID Rout [] id 1 relays (λ j a b. m j a (omega (arith, b)))))
 
-pub ids-listed : map (λ d. (idOf d, d)) devices ≡ listed
+pub ids-listed : map (λ d. (idOf d, d)) (rising Din 1 inputs ++ rising Rout 1 relays) ≡ listed
 unfolding idOf
 ids-listed = refl
 

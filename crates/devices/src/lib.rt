@@ -9,7 +9,7 @@ ghost use Rattle.devices.specs.Devices.{isOneOf, idOf, deviceOf};
 // How many inputs and how many relays the formula goes to: here alone, as in specs/Devices.
 const INPUTS: u64 = 8;
 
-const RELAYS: u64 = 8;
+const RELAYS: u64 = 16;
 
 // What an ID names: an input or a relay, by its channel.
 pub enum Device {

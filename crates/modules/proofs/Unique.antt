@@ -6,6 +6,7 @@ use Rattle.modules.proofs.is_filled.Reads as is-filled
 use Rattle.modules.proofs.set_filled.Reads as set-filled
 use Rattle.modules.proofs.is_present.Reads as is-present
 use Rattle.modules.proofs.has_module.Reads as has-module
+use Rattle.modules.proofs.output_count.Reads as output-count
 use Rattle.modules.proofs.moved_at.Reads as moved-at
 
 pub unique-is-place : (κs : _) (a : _) (r r′ : _) (s s′ : _) → is-place.Post κs a r s → is-place.Post κs a r′ s′ → r ≡ r′
@@ -25,3 +26,6 @@ unique-has-module κs a r r′ s s′ p q = p ∙ sym q
 
 pub unique-moved-at : (κs : _) (a : _) (r r′ : _) (s s′ : _) → moved-at.Post κs a r s → moved-at.Post κs a r′ s′ → r ≡ r′
 unique-moved-at κs a r r′ s s′ p q = p ∙ sym q
+
+pub unique-output-count : (κs : _) (a : _) (r r′ : _) (s s′ : _) → output-count.Post κs a r s → output-count.Post κs a r′ s′ → r ≡ r′
+unique-output-count κs a r r′ s s′ p q = p ∙ sym q

@@ -5,8 +5,9 @@
 ghost use mathlib.Core.Path.{_≡_};
 ghost use mathlib.Core.Bool.{cond, _&&_, _||_, not};
 ghost use lib.Dec.{leb};
+ghost use lib.ListN.{length};
 ghost use Rattle.rows.specs.Rows.{flagged};
-ghost use Rattle.modules.specs.Modules.{isPlace, filled, placeSet, present, hasModule, movedAt};
+ghost use Rattle.modules.specs.Modules.{isPlace, filled, placeSet, present, hasModule, outputs, movedAt};
 use rows::FIRST_PLACE;
 use rows::ROWS;
 
@@ -85,11 +86,24 @@ pub fn is_present(board: &[[u64; 8]; ROWS], k: usize) -> bool
     false
 }
 
+fn four_if(filled: bool) -> u8
+    ensures { λ r. ⌜ r ≡ cond filled 4 0 ⌝ }
+{
+    if filled { 4 } else { 0 }
+}
+
 // Whether a module stands at one of the places.
 pub fn has_module(board: &[[u64; 8]; ROWS]) -> bool
     ensures { λ r. ⌜ r ≡ hasModule (now (board .entry)) ⌝ }
 {
     either(is_filled(board, 1), is_filled(board, 2))
+}
+
+// How many relays of the second deck are there: four for each module.
+pub fn output_count(board: &[[u64; 8]; ROWS]) -> u8
+    ensures { λ r. ⌜ r ≡ length (outputs (now (board .entry))) ⌝ }
+{
+    four_if(is_filled(board, 1)) + four_if(is_filled(board, 2))
 }
 
 // The deck on which relay k moved, if it did.

@@ -20,15 +20,15 @@ pub data Refusal (content : List ℕ) : ℕ → ℕ → Type 0 where
 abbrev pub Within : ℕ → ℕ → ℕ → Type 0
 Within low high n = (low ≤ n) × (n ≤ high)
 
--- 01, Messages, 10, 2, and 02, M-100, 1: the channel of an order that has one
-pub data ChannelOf : Order → ℕ → Type 0 where
-  close : {k : ℕ} → ChannelOf (Close k) k
-  opening : {k : ℕ} → ChannelOf (Open k) k
-  toggle : {k : ℕ} → ChannelOf (Toggle k) k
-  clear-count : {k : ℕ} → ChannelOf (ClearCount k) k
-  clear-input-usage : {k : ℕ} → ChannelOf (ClearInputUsage k) k
-  clear-relay-usage : {k : ℕ} → ChannelOf (ClearRelayUsage k) k
-  pulse : {k ms : ℕ} → ChannelOf (PulseRelay k ms) k
+-- 01, Messages, 10, 2, and 02, M-100, 1, and M-102, 2 and 3: the channel of an order that has one, and how far it goes
+pub data ChannelOf : Order → ℕ → ℕ → Type 0 where
+  close : {k : ℕ} → ChannelOf (Close k) 16 k
+  opening : {k : ℕ} → ChannelOf (Open k) 16 k
+  toggle : {k : ℕ} → ChannelOf (Toggle k) 16 k
+  clear-count : {k : ℕ} → ChannelOf (ClearCount k) 8 k
+  clear-input-usage : {k : ℕ} → ChannelOf (ClearInputUsage k) 8 k
+  clear-relay-usage : {k : ℕ} → ChannelOf (ClearRelayUsage k) 8 k
+  pulse : {k ms : ℕ} → ChannelOf (PulseRelay k ms) 16 k
 
 -- 02, M-100, 1: the duration of an order that has one
 pub data DurationOf : Order → ℕ → Type 0 where
