@@ -11,6 +11,10 @@ TOOLS = ("replay", "replay-san", "replay-peer-san")
 
 PAGE = "docs/REPLAY.md"
 
+# A connection that is shut, and the whole state after `power`.
+SHUT = " 0,0,0,0,0,0,0"
+FRESH = "C 0 I" + " 0,0,0" * 8 + " R" + " 0,0" * 16 + " N" + SHUT * 4 + " P 0"
+
 # Rows of every kind. A pulse of relay 1 for 3 ms and one of relays 1 and 2 for the longest time are asked for and run with rows of other
 # lengths: from 31 on all calls share one row.
 ROWS = [
@@ -21,15 +25,39 @@ ROWS = [
     ("bytes 0 4096 010008FFFF0A06000100000003 30", "4 0 0 0 -"),
     ("bytes 0 4096 010008FFFF0A06000100000003 64", "1 13 0 0 -"),
     ("bytes 0 4096 010008FFFF0A0703FEFFFFFFFF 31", "1 13 0 0 -"),
-    ("state", "C 4 I" + " 0,0,0" * 8 + " R 1,0" + " 0,0" * 7 + " N 1,2,1,1,0,0" + " 0,0,0,0,0,0" * 3 + " P 2 1,1,3 3,2,4294967295 was 0"),
+    ("state", "C 4 I" + " 0,0,0" * 8 + " R 1,0" + " 0,0" * 15 + " N 1,2,1,1,0,0,0" + SHUT * 3 + " P 2 1,1,3 3,2,4294967295 was 0"),
     ("pass 3 30", "4"),
     ("pass 3 32", "1"),
-    ("state", "C 7 I" + " 0,0,0" * 8 + " R 0,3 1,0" + " 0,0" * 6 + " N 1,2,1,1,0,0" + " 0,0,0,0,0,0" * 3 + " P 1 3,2,4294967295 was 0"),
+    ("state", "C 7 I" + " 0,0,0" * 8 + " R 0,3 1,0" + " 0,0" * 14 + " N 1,2,1,1,0,0,0" + SHUT * 3 + " P 1 3,2,4294967295 was 0"),
     ("pass 4294967294", "1"),
     ("pass 1 64", "1"),
-    ("state", "C 4294967302 I" + " 0,0,0" * 8 + " R 0,3 0,4294967295" + " 0,0" * 6 + " N 1,2,1,1,0,0" + " 0,0,0,0,0,0" * 3 + " P 0"),
-    ("power", "1"),
-    ("state", "C 0 I" + " 0,0,0" * 8 + " R" + " 0,0" * 8 + " N" + " 0,0,0,0,0,0" * 4 + " P 0"),
+    ("state", "C 4294967302 I" + " 0,0,0" * 8 + " R 0,3 0,4294967295" + " 0,0" * 14 + " N 1,2,1,1,0,0,0" + SHUT * 3 + " P 0"),
+    ("power", "1"), ("state", FRESH),
+]
+
+# Places of every kind, with rows of every kind. Pulses of relays 9, 16, 1 and 12 stand, of 3, 9, 2 and 5 ms; the second module goes, then the first
+# while its pulse runs, and comes back: the records of their own pulses change, and no others. Relay 9 was closed before its pulse. Connection 0
+# has asked for no Monitor messages, connection 1 has just been opened.
+DECK = [
+    ("fill 1 0", "4"), ("fill 1 30", "4"), ("fill 3 30", "4"), ("empty 0 30", "4"), ("empty 255 0", "4"), ("fill 0", "11"), ("fill 3 64", "11"),
+    ("fill 255 31", "11"), ("empty 0", "11"), ("empty 3 31", "11"), ("empty 255", "11"), ("empty 1", "1"), ("empty 2 64", "1"), ("state", FRESH),
+    ("open 0 2", "1"), ("bytes 0 4096 010003FFFF050004", "1 8 0 0 -"), ("bytes 0 4096 010004FFFF0A010009", "11 9 0 0 -"),
+    ("fill 1 31", "1"), ("fill 1 64", "1"), ("fill 00000000000000000002 064", "1"), ("fill 2", "1"), ("open 1 1", "1"),
+    ("bytes 0 4096 010004FFFF0A010009", "1 9 0 0 -"), ("bytes 0 4096 010004FFFF0A010011", "11 9 0 0 -"),
+    ("bytes 0 4096 010008FFFF0A06000900000003 64", "1 13 0 0 -"), ("bytes 0 4096 010008FFFF0A06001000000009", "1 13 0 0 -"),
+    ("bytes 0 4096 010008FFFF0A06000100000002 32", "1 13 0 0 -"), ("bytes 0 4096 010008FFFF0A06000C00000005", "1 13 0 0 -"),
+    ("state", "C 0 I" + " 0,0,0" * 8 + " R" + " 0,0" * 8 + " 1,0" + " 0,0" * 7 + " N 1,2,0,0,0,0,0 1,1,1,1,0,1,0" + SHUT * 2
+     + " P 4 256,256,3 32768,32768,9 1,1,2 2048,2048,5 was 256"),
+    ("empty 2 30", "4"), ("empty 2 64", "1"), ("empty 2 31", "1"), ("fill 2 32", "1"), ("pass 1", "1"), ("empty 1 0", "4"), ("empty 1", "1"),
+    ("state", "C 1 I" + " 0,0,0" * 8 + " R" + " 0,0" * 16 + " N 1,2,0,0,0,0,0 1,1,1,1,0,1,0" + SHUT * 2
+     + " P 4 0,0,2 0,0,9 1,1,2 0,0,5 was 0"),
+    ("fill 1 64", "1"), ("pass 12 32", "1"),
+    ("state", "C 13 I" + " 0,0,0" * 8 + " R 1,1" + " 0,0" * 15 + " N 1,2,0,0,0,0,0 1,1,1,1,0,1,0" + SHUT * 2 + " P 2 1,1,1 0,0,5 was 0"),
+    ("collect 0 4096", "0 0 -"), ("empty 1", "1"), ("empty 2", "1"),
+    ("state", "C 13 I" + " 0,0,0" * 8 + " R 1,1" + " 0,0" * 15 + " N 1,2,0,0,0,0,0 1,1,1,1,0,0,0" + SHUT * 2 + " P 2 1,1,1 0,0,5 was 0"),
+    ("fill 2", "1"), ("collect 1 4095", "4 0 -"), ("close 1", "1"), ("open 1 1 1", "1"),
+    ("state", "C 13 I" + " 0,0,0" * 8 + " R 1,1" + " 0,0" * 15 + " N 1,2,0,0,0,0,0 1,1,1,1,0,1,1" + SHUT * 2 + " P 2 1,1,1 0,0,5 was 0"),
+    ("power", "1"), ("state", FRESH), ("open 0 2", "1"), ("bytes 0 4096 010004FFFF0A01000D", "11 9 0 0 -"), ("close 0", "1"),
 ]
 
 # Openings with every kind of word for strictness. 0, however many digits it has, says not strict, and so does a line without the word. The
@@ -40,12 +68,11 @@ STRICT = [
     ("open 1 3 1", "13"), ("open 1 2 0", "1"), (f"bytes 1 {UNCHECKED}", "1 9 0 0 -"), ("open 4 2 1", "3"), ("open 255 255 255", "3"),
     ("open 2 2 00000000000000000000", "1"), (f"bytes 2 {UNCHECKED}", "1 9 0 0 -"),
     ("open 3 2 00000000000000000001", "1"), (f"bytes 3 {UNCHECKED}", "7 9 0 0 -"), ("open 3 2 0", "12"), (f"bytes 3 {UNCHECKED}", "7 9 0 0 -"),
-    ("state", "C 0 I" + " 0,0,0" * 8 + " R" + " 0,0" * 8 + " N" + " 1,2,1,1,0,0" * 3 + " 1,2,1,1,0,1 P 0"),
+    ("state", "C 0 I" + " 0,0,0" * 8 + " R" + " 0,0" * 16 + " N" + " 1,2,1,1,0,0,0" * 3 + " 1,2,1,1,0,0,1 P 0"),
 ] + [pair for word in ("2", "3", "127", "128", "254", "255", "0255") for pair in (
     ("close 0", "1"), (f"open 0 0 {word}", "1"), (f"bytes 0 {UNCHECKED}", "7 9 0 0 -"))] + [
-    ("state", "C 0 I" + " 0,0,0" * 8 + " R" + " 0,0" * 8 + " N 1,0,1,0,0,1" + " 1,2,1,1,0,0" * 2 + " 1,2,1,1,0,1 P 0"),
-    ("close 3", "1"), ("power", "1"),
-    ("state", "C 0 I" + " 0,0,0" * 8 + " R" + " 0,0" * 8 + " N" + " 0,0,0,0,0,0" * 4 + " P 0"),
+    ("state", "C 0 I" + " 0,0,0" * 8 + " R" + " 0,0" * 16 + " N 1,0,1,0,0,0,1" + " 1,2,1,1,0,0,0" * 2 + " 1,2,1,1,0,0,1 P 0"),
+    ("close 3", "1"), ("power", "1"), ("state", FRESH),
 ]
 
 # Contents of every wrong length with the place that is told of them, and behind each something else, with which none is told. On connection 1
@@ -66,7 +93,7 @@ PLACES = [
     ("bytes 0 4096 010400FFFF150080" + "00" * 1021, "22 1029 1024 0 -"), ("bytes 0 4096 010004FFFF0A0A0000", "1 9 0 0 -"),
     ("bytes 0 4096 010400FFFF15007F" + "00" * 1021, "21 1029 1019 0 -"), ("bytes 0 4096 010003FFFF1500", "0 7 0 0 -"),
     ("bytes 0 4096 0206", "22 1 3 0 -"), ("bytes 0 4096 06", "2 1 0 0 -"), ("collect 0 4095", "4 0 -"), ("collect 1 4096", "0 0 -"),
-    ("state", "C 0 I" + " 0,0,0" * 8 + " R" + " 0,0" * 8 + " N 1,2,1,1,0,0 1,0,1,0,0,0" + " 0,0,0,0,0,0" * 2 + " P 0"),
+    ("state", "C 0 I" + " 0,0,0" * 8 + " R" + " 0,0" * 16 + " N 1,2,1,1,0,0,0 1,0,1,0,0,0,0" + SHUT * 2 + " P 0"),
 ]
 
 # "any other line": `?`
@@ -84,6 +111,11 @@ OTHER = [
     "open 0 2 256", "open 0 2 -1", "open 0 2 +1", "open 0 2 -", "open 0 2 x", "open 0 2 1F", "open 0 2 strict", "open 0 2 1 1", "open 0 2 1 ",
     "open 0 2  1", "open 0 256 1", "open 256 2 1", "open 0 2 18446744073709551617", "open 0 2 000000000000000000001", "open 0 2 1\r",
     "state 31", "power 31", "bytes 0 4096 " + "00" * 100001 + " 31", "bytes 0 4096 " + "00" * 100000 + " 65",
+    "fill", "fill ", "fill 256", "fill 257", "fill -1", "fill +1", "fill x", "fill 1F", "fill 1 65", "fill 1 -", "fill 1 -1", "fill 1 1F",
+    "fill 1 31 31", "fill 1 31 ", "fill 1 ", "fill  1", "fill 1  31", " fill 1", "Fill 1", "fill1", "fills 1", "fill 256 31",
+    "fill 18446744073709551617", "fill 1\r", "fill 000000000000000000001", "fill 1 4294967327", "empty", "empty ", "empty 256", "empty 258",
+    "empty -1", "empty x", "empty 1 65", "empty 1 -", "empty 1 x", "empty 1 31 31", "empty 1 31 ", "empty 1 ", "empty  1", "empty 256 31", "Empty 1",
+    "emptied 1", "empty 4294967297", "empty\t1",
 ]
 
 
@@ -118,8 +150,8 @@ def expect(tool, what, pairs):
 
 def main():
     noise = random.Random(7)
-    words = [b"open ", b"close ", b"level ", b"pass ", b"collect ", b"bytes ", b"state", b"power", b"0", b"1", b" ", b"-", b"4096", b"06", b"31", b"64",
-             b"\n"]
+    words = [b"open ", b"close ", b"level ", b"pass ", b"fill ", b"empty ", b"collect ", b"bytes ", b"state", b"power", b"0", b"1", b" ", b"-", b"4096",
+             b"06", b"31", b"64", b"\n"]
     text = b"".join(noise.choice(words) if noise.random() < 0.9 else bytes([noise.randrange(256)]) for _ in range(60000)) + b"\n"
     pages = examples()
     if [len(block) for block in pages] != [7, 13, 12, 10]:
@@ -131,6 +163,7 @@ def main():
         for block in pages:
             expect(tool, "an example of the page", block)
         expect(tool, "rows", ROWS)
+        expect(tool, "places of modules", DECK)
         expect(tool, "openings", STRICT)
         expect(tool, "places", PLACES)
         expect(tool, "other lines", [(line, "?") for line in OTHER])
@@ -140,8 +173,8 @@ def main():
             sys.exit(f"bad_lines: {tool}: {lines} lines for {text.count(10)} of noise")
         if play(tool, b"open 0 2") not in (b"1\n",):
             sys.exit(f"bad_lines: {tool}: a last line without its end has no answer")
-    print(f"bad_lines: {sum(map(len, pages))} lines of the page, {len(ROWS)} with rows, {len(STRICT)} with openings, {len(PLACES)} with places, "
-          f"{len(OTHER)} other lines, {text.count(10)} lines of noise, each answered by {', '.join(TOOLS)}")
+    print(f"bad_lines: {sum(map(len, pages))} lines of the page, {len(ROWS)} with rows, {len(DECK)} with modules, {len(STRICT)} with openings, "
+          f"{len(PLACES)} with places, {len(OTHER)} other lines, {text.count(10)} lines of noise, each answered by {', '.join(TOOLS)}")
 
 
 main()

@@ -3202,8 +3202,8 @@ reaching("channels 9 to 16 refused", lambda box, action, channel, right: right a
 @named("channels without their module answered 1 and nothing done")
 class _(Box):
     def command(self, conn, fields):
-        content = fields.content
-        if len(content) == 4 and content[1] in (1, 2, 3) and 9 <= number(content[2:]) <= 16 and number(content[2:]) not in self.deck():
+        content, channel = fields.content, number(fields.content[2:4])
+        if len(content) == 4 and content[1] in (1, 2, 3) and 9 <= channel <= 16 and channel not in self.deck():
             return []
         return super().command(conn, fields)
 
@@ -3361,8 +3361,8 @@ class _(Box):
 
 
 def marking(name, marks):
-    """A box that marks otherwise; `marks` gives the two marks of a change from the box, whether it is of a level or relay from 1 to 8
-    and the two that should be.
+    """A box that marks otherwise; `marks` gives the two marks of a change from the box, whether a level or a relay from 1 to 8
+    changed, and the two that should be.
     """
     @named(name)
     class _(Box):
@@ -3541,12 +3541,14 @@ def neither(due, due2):
 collecting("collection leaves type 2's mark", rightly, lambda due, due2: (0, due2))
 collecting("collection with both due leaves type 2's mark", rightly, lambda due, due2: (0, due & due2))
 collecting("collection with both due leaves type 1's mark", rightly, lambda due, due2: (due & due2, 0))
-collecting("one collection for each message due", lambda due, due2, box: [1] if due else [2] * due2, lambda due, due2: (0, due & due2))
+collecting("one collection for each message due", lambda due, due2, box: [1] if due else [2] * due2,
+           lambda due, due2: (0, due & due2))
 collecting("type 1 alone written of both, and both marks cleared", lambda due, due2, box: [1] if due else [2] * due2, neither)
 collecting("type 2 alone written of both", lambda due, due2, box: [2] if due2 else [1] * due, neither)
 collecting("type 2 collected before type 1", lambda due, due2, box: [2] * due2 + [1] * due, neither)
 collecting("type 2 alone due brings type 1 along", lambda due, due2, box: [1] * (due | due2) + [2] * due2, neither)
-collecting("type 1 alone due brings type 2 along", lambda due, due2, box: [1] * due + [2] * (due2 or due and len(box.filled) > 0), neither)
+collecting("type 1 alone due brings type 2 along",
+           lambda due, due2, box: [1] * due + [2] * (due2 or due and len(box.filled) > 0), neither)
 collecting("type 2 due brings nothing without type 1", lambda due, due2, box: [1, 2][:1 + due2] if due else [], neither)
 collecting("type 2 due waits for type 1", lambda due, due2, box: [1, 2][:1 + due2] if due else [],
            lambda due, due2: (0, 0 if due else due2))
@@ -3597,7 +3599,7 @@ framing("a byte between the two messages", lambda box, contents: box.frame(conte
 # What type 2 says.
 
 def telling_deck(name, content):
-    """A box whose External Monitor message is another; `content` gives it from the box, the relays that are present and the right one."""
+    """A box whose External Monitor message is another; `content` gives it from the box, which relays are present, and the right one."""
     @named(name)
     class _(Box):
         def external_content(self):
@@ -3624,20 +3626,21 @@ telling_deck("type 2 counts the box's inputs", lambda box, deck, right: right[:1
 telling_deck("type 2 counts outputs before inputs", lambda box, deck, right: right[:1] + right[2:3] + right[1:2] + right[3:])
 telling_deck("type 2 without the clock", lambda box, deck, right: right[:-8])
 telling_deck("type 2 with half the clock", lambda box, deck, right: right[:-8] + right[-4:])
-telling_deck("type 2 with the states in one byte", lambda box, deck, right: right[:3] + field(box.relay_states() >> 8, 1) + right[-8:])
+telling_deck("type 2 with the states in one byte",
+             lambda box, deck, right: right[:3] + field(box.relay_states() >> 8, 1) + right[-8:])
 telling_deck("type 2 with type 1's number", lambda box, deck, right: b"\x01" + right[1:])
 
 
 # Requests.
 
 def asking(name, request, also):
-    """A box that does something more at this request; `also` does it to box and connection, with the contents of the answer, and may
-    give others.
+    """A box that does something more at this request; `also` does it to box and connection, and gives the contents of the answer
+    from those that should be and from type 2's mark before.
     """
     @named(name)
     class _(Box):
         def request(self, conn, fields):
-            due, due2 = conn.due, conn.due2
+            due2 = conn.due2
             answer = super().request(conn, fields)
             if fields.content[1:3] == field(request, 2):
                 answer = also(self, conn, answer, due2)
@@ -3660,11 +3663,14 @@ asking("request 1 clears type 2's mark", 1, lambda box, conn, answer, due2: sett
 asking("request 1 sets type 2's mark", 1, lambda box, conn, answer, due2: setting(conn, 1 if box.filled else 0, answer))
 asking("request 4 leaves type 2's mark", 4, lambda box, conn, answer, due2: setting(conn, due2, answer))
 asking("request 5 sets type 2's mark", 5, lambda box, conn, answer, due2: setting(conn, 1, answer))
-asking("request 5 sets type 2's mark with a module", 5, lambda box, conn, answer, due2: setting(conn, 1 if box.filled else 0, answer))
+asking("request 5 sets type 2's mark with a module", 5,
+       lambda box, conn, answer, due2: setting(conn, 1 if box.filled else 0, answer))
 asking("request 5 clears type 2's mark", 5, lambda box, conn, answer, due2: setting(conn, 0, answer))
 asking("request 5 answers type 2", 5, lambda box, conn, answer, due2: [box.external_content()] if box.filled else answer)
-asking("request 0 brings type 2 along", 0, lambda box, conn, answer, due2: answer + ([box.external_content()] if box.filled else []))
-asking("request 2 brings type 2 along", 2, lambda box, conn, answer, due2: answer + ([box.external_content()] if box.filled else []))
+asking("request 0 brings type 2 along", 0,
+       lambda box, conn, answer, due2: answer + ([box.external_content()] if box.filled else []))
+asking("request 2 brings type 2 along", 2,
+       lambda box, conn, answer, due2: answer + ([box.external_content()] if box.filled else []))
 
 
 @named("External Monitor message arriving answered")
@@ -3708,7 +3714,8 @@ class _(Box):
 @named("modules' relays listed and not counted")
 class _(Box):
     def enumerate_devices(self, conn, fields):
-        return [content[:2] + field(min(number(content[2:4]), 16), 2) + content[4:] for content in super().enumerate_devices(conn, fields)]
+        content, = super().enumerate_devices(conn, fields)
+        return [content[:2] + field(min(number(content[2:4]), 16), 2) + content[4:]]
 
 
 @named("modules' relays listed as external devices")

@@ -2,6 +2,7 @@
 // every number, every rank and every board, nonsense included.
 
 ghost use mathlib.Core.Path.{_≡_};
+ghost use mathlib.Core.Bool.{_&&_};
 ghost use Rattle.rows.specs.Rows.{shutLine};
 ghost use Rattle.answers.specs.Calls.{Gives};
 ghost use Rattle.connections.specs.Lines.{openedLine, isOpen, isStrict, connected, closed};
@@ -19,19 +20,28 @@ fn shut() -> Line
         monitor: false,
         due: false,
         strict: 0,
+        external: false,
     }
 }
 
-// A connection that was opened at a rank. What the opening said of its strictness is kept as it is.
-fn opened(rank: u64, strict: u64) -> Line
-    ensures { λ r. ⌜ r ≡ openedLine rank strict ⌝ }
+fn both(a: bool, b: bool) -> bool
+    ensures { λ r. ⌜ r ≡ a && b ⌝ }
 {
+    if a { b } else { false }
+}
+
+// A connection that was opened at a rank, with a module present or not. What the opening said of its strictness is kept as it is.
+fn opened(rank: u64, strict: u64, present: bool) -> Line
+    ensures { λ r. ⌜ r ≡ openedLine rank strict present ⌝ }
+{
+    let due = marks::has_rank(rank);
     Line {
         isOpen: true,
         rank,
         monitor: true,
-        due: marks::has_rank(rank),
+        due,
         strict,
+        external: both(due, present),
     }
 }
 
@@ -64,7 +74,12 @@ pub fn connect(board: &mut [[u64; 8]; ROWS], c: u8, rank: u8, strict: u8) -> Ser
     if 2 < rank {
         return answers::no_reply(numbers::BAD_RANK);
     }
-    rows::put_line(board, c as usize, opened(rank as u64, strict as u64));
+    let present = modules::has_module(board);
+    rows::put_line(
+        board,
+        c as usize,
+        opened(rank as u64, strict as u64, present),
+    );
     answers::no_reply(numbers::SERVED)
 }
 
