@@ -234,7 +234,7 @@ static uint64_t id_of(unsigned device)
     return (uint64_t)k << 8 | 0xFF;
 }
 
-/* 02, M-102, 9: to reading and writing the second deck's are as unknown, whether their module is there or not. */
+/* 02, M-102, 9: those of the second deck are like unknown ones here, whether their module is there or not: no block is read of them, none written. */
 static int device_of(uint64_t id)
 {
     uint64_t k = id >> 8;

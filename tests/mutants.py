@@ -11,6 +11,7 @@ caught within the events given (default 20,000).
 
 import argparse
 import functools
+import itertools
 import sys
 import time
 
@@ -18,7 +19,7 @@ import model
 import traces
 from answers import (ALREADY_OPEN, BAD_CHECKSUM, BAD_RANK, ENDS_EARLY, KEEP_ALIVE, LEFT_OVER, LIST_CUT, LOW_RANK, NO_CONNECTION,
                      NOT_OFFERED, OUT_OF_RANGE, QUEUE_FULL, SERVED, SHORT_BUFFER, STRAY, TOO_LONG, WAITING)
-from model import Box, Fields, PULSES, Refused, TOP32, TOP64, crc16, field, number
+from model import Box, DECK_IDS, Fields, PLACES, PULSES, Refused, TOP32, TOP64, crc16, field, number
 
 MUTANTS = {}
 
@@ -2685,18 +2686,17 @@ class _(Box):
 
 # -- the second deck: M-102 ------------------------------------------------------------------------------
 
-class Refilling(Box):
-    """A box that knows which relays of a place were closed when it was last emptied, and which pulses had them."""
+class Recalling(Box):
+    """A box that knows of each place which of its relays were closed when it was last emptied, and which pulses stood."""
 
     def remove(self, place):
-        of_place = bits(model.PLACES[place])
-        self.closed[place] = self.relay_states() & of_place
-        self.had[place] = [(pulse, pulse.mask & of_place) for pulse in self.queue]
+        self.closed[place] = self.relay_states() & bits(PLACES[place])
+        self.stood[place] = [(pulse, pulse.mask, pulse.states) for pulse in self.queue]
         super().remove(place)
 
     def power(self, *settings):
         super().power(*settings)
-        self.closed, self.had = {1: 0, 2: 0}, {1: [], 2: []}
+        self.closed, self.stood = {1: 0, 2: 0}, {1: [], 2: []}
 
 
 def bits(channels):
@@ -2704,9 +2704,31 @@ def bits(channels):
     return sum(1 << k - 1 for k in channels)
 
 
+def as_they_stood(pulses):
+    for pulse, mask, states in pulses:
+        pulse.mask, pulse.states = mask, states
+
+
 def ranked(conn):
-    """Whether marks may come to it."""
     return conn.open and conn.rank >= 1
+
+
+def mark2(box, *_):
+    """Type 2, on every connection that a change marks."""
+    for conn in box.connections:
+        if ranked(conn) and conn.monitor:
+            conn.due2 = 1
+
+
+def clear2(box, *_):
+    for conn in box.connections:
+        conn.due2 = 0
+
+
+def marks2_again(box, marks):
+    """Type 2's marks as they were."""
+    for conn, (_, due2) in zip(box.connections, marks):
+        conn.due2 = due2
 
 
 # Which places there are.
@@ -2763,7 +2785,7 @@ class _(Box):
 @named("place judged before the row")
 class _(Box):
     def refuse_place(self, place, row):
-        return super().refuse_place(place, row if place in model.PLACES else PULSES)
+        return super().refuse_place(place, row if place in PLACES else PULSES)
 
 
 def lending(name, event, row_for):
@@ -2814,23 +2836,14 @@ def again(name, event, also):
 
 again("filling again refused", "fill", lambda box, place: OUT_OF_RANGE)
 again("emptying again refused", "empty", lambda box, place: OUT_OF_RANGE)
-again("filling again opens the module's relays", "fill", lambda box, place: box.put_masked(bits(model.PLACES[place]), 0))
+again("filling again opens the module's relays", "fill", lambda box, place: box.put_masked(bits(PLACES[place]), 0))
 again("filling again takes the module out first", "fill", lambda box, place: box.remove(place) or box.filled.add(place))
 again("filling again empties the place", "fill", Box.remove)
-again("filling again marks", "fill", lambda box, place: box.changed(False))
+again("filling again marks", "fill", mark2)
 again("emptying again fills the place", "empty", lambda box, place: box.filled.add(place))
-again("emptying again marks", "empty", lambda box, place: box.changed(False))
+again("emptying again marks", "empty", lambda box, place: mark2(box) if box.filled else None)
+again("emptying again clears the marks", "empty", clear2)
 again("emptying again opens the other module's relays", "empty", lambda box, place: box.put_masked(0xFF00, 0))
-
-
-@named("emptying again clears the marks")
-class _(Box):
-    def empty(self, place, row=PULSES):
-        answer = super().empty(place, row)
-        if answer == SERVED:
-            for conn in self.connections:
-                conn.due2 = 0
-        return answer
 
 
 # What is filled.
@@ -2889,7 +2902,7 @@ class _(Box):
 def filling(name, also):
     """A box that does something when a module comes; `also` does it to box and place."""
     @named(name)
-    class _(Refilling):
+    class _(Recalling):
         def fill(self, place, row=PULSES):
             before = set(self.filled)
             answer = super().fill(place, row)
@@ -2898,93 +2911,62 @@ def filling(name, also):
             return answer
 
 
-def mark2(box, *_):
-    for conn in box.connections:
-        if ranked(conn) and conn.monitor:
-            conn.due2 = 1
-
-
-def masks_back(box, place):
-    for pulse, mask in box.had[place]:
-        if pulse in box.queue:
-            pulse.mask |= mask
-
-
 filling("filling marks type 2", mark2)
 filling("filling marks type 1", lambda box, place: box.changed())
 filling("the second filling marks type 2", lambda box, place: mark2(box) if len(box.filled) == 2 else None)
 filling("a module comes back as it went", lambda box, place: box.put_masked(box.closed[place], 0xFFFF))
-filling("a module's relays are closed when it comes", lambda box, place: box.put_masked(bits(model.PLACES[place]), 0xFFFF))
+filling("a module's relays are closed when it comes", lambda box, place: box.put_masked(bits(PLACES[place]), 0xFFFF))
 filling("a module that comes opens the other's relays", lambda box, place: box.put_masked(0xFF00, 0))
-filling("a module that comes back is in the masks again", masks_back)
+filling("a module that comes back is in the masks again", lambda box, place: as_they_stood(box.stood[place]))
 
 
 # What goes with a module.
 
-@named("removed relays stay closed")
-class _(Refilling):
-    def remove(self, place):
-        super().remove(place)
-        for k in model.PLACES[place]:
-            self.relays[k - 1].state = self.closed[place] >> k - 1 & 1
-
-
-@named("first relay alone of a removed module opens")
-class _(Refilling):
-    def remove(self, place):
-        super().remove(place)
-        for k in model.PLACES[place][1:]:
-            self.relays[k - 1].state = self.closed[place] >> k - 1 & 1
-
-
 def removing(name, also):
     """A box that does something more when a module goes; `also` does it to box, place and the marks before."""
     @named(name)
-    class _(Refilling):
+    class _(Recalling):
         def remove(self, place):
             marks = marks_of(self)
             super().remove(place)
             also(self, place, marks)
 
 
-def marks_again(box, place, marks):
-    for conn, (due, due2) in zip(box.connections, marks):
-        conn.due2 = due2
+def closed_again(box, channels, place):
+    for k in channels:
+        box.relays[k - 1].state = box.closed[place] >> k - 1 & 1
 
 
-def unless_present(do):
-    return lambda box, place, marks: None if box.filled else do(box, place, marks)
-
-
-def if_present(do):
-    return lambda box, place, marks: do(box, place, marks) if box.filled else None
-
-
-def clear2(box, *_):
-    for conn in box.connections:
-        conn.due2 = 0
-
-
-def clear1(box, *_):
+def clear1(box):
     for conn in box.connections:
         conn.due = 0
 
 
+def at_the_last(do):
+    return lambda box, place, marks: None if box.filled else do(box, place, marks)
+
+
+def at_one_of_two(do):
+    return lambda box, place, marks: do(box, place, marks) if box.filled else None
+
+
+removing("removed relays stay closed", lambda box, place, marks: closed_again(box, PLACES[place], place))
+removing("first relay alone of a removed module opens", lambda box, place, marks: closed_again(box, PLACES[place][1:], place))
+removing("last relay of a removed module stays closed", lambda box, place, marks: closed_again(box, PLACES[place][3:], place))
 removing("removed relays open, the other module's too", lambda box, place, marks: box.put_masked(0xFF00, 0))
 removing("removed relays open, and all others", lambda box, place, marks: box.put_masked(0xFFFF, 0))
-removing("the last emptying leaves the marks", unless_present(marks_again))
-removing("the last emptying leaves its own change's mark", unless_present(
-    lambda box, place, marks: mark2(box) if box.closed[place] else None))
-removing("the last emptying marks", unless_present(mark2))
-removing("the last emptying clears type 1's marks too", unless_present(clear1))
+removing("the last emptying leaves the marks", at_the_last(lambda box, place, marks: marks2_again(box, marks)))
+removing("the last emptying leaves its own change's mark",
+         at_the_last(lambda box, place, marks: mark2(box) if box.closed[place] else None))
+removing("the last emptying marks", at_the_last(mark2))
+removing("the last emptying clears type 1's marks too", at_the_last(lambda box, place, marks: clear1(box)))
 removing("every emptying clears the marks", clear2)
-removing("emptying one of two marks nothing", if_present(marks_again))
-removing("emptying one of two marks though all was open", if_present(mark2))
-removing("emptying one of two marks by the other's closed relays", if_present(
-    lambda box, place, marks: mark2(box) if box.relay_states() >> 8 else None))
+removing("emptying one of two marks nothing", at_one_of_two(lambda box, place, marks: marks2_again(box, marks)))
+removing("emptying one of two marks though all was open", at_one_of_two(mark2))
+removing("emptying one of two marks by the other's closed relays",
+         at_one_of_two(lambda box, place, marks: mark2(box) if box.relay_states() >> 8 else None))
 removing("emptying marks type 1", lambda box, place, marks: box.changed() if box.closed[place] else None)
-removing("emptying marks type 1 by any emptying", lambda box, place, marks: box.changed())
-removing("emptying turns Monitor off", lambda box, place, marks: [setattr(conn, "monitor", 0) for conn in box.connections])
+removing("emptying marks type 1 though all was open", lambda box, place, marks: box.changed())
 
 
 @named("the last emptying clears the first connection's mark alone")
@@ -2992,51 +2974,22 @@ class _(Box):
     def remove(self, place):
         marks = marks_of(self)
         super().remove(place)
-        for conn, (due, due2) in list(zip(self.connections, marks))[1:]:
-            conn.due2 = conn.due2 or due2
-
-
-@named("the last emptying leaves the marks where Monitor is off or rank 0")
-class _(Box):
-    def remove(self, place):
-        super().remove(place)
         if not self.filled:
-            for conn in self.connections:
-                conn.due2 = 1 if conn.open and not (ranked(conn) and conn.monitor) else 0
+            for conn, (_, due2) in list(zip(self.connections, marks))[1:]:
+                conn.due2 = due2
 
 
 # Pulses that stand when it goes.
 
-@named("waiting pulses keep removed relays")
-class _(Refilling):
-    def remove(self, place):
-        super().remove(place)
-        for pulse, mask in self.had[place][1:]:
-            pulse.mask |= mask
+def keeping(name, which):
+    """A box in which some pulses keep the relays of a module that goes; `which` picks them out of all that stand."""
+    removing(name, lambda box, place, marks: as_they_stood(which(box.stood[place])))
 
 
-@named("running pulse keeps removed relays")
-class _(Refilling):
-    def remove(self, place):
-        super().remove(place)
-        for pulse, mask in self.had[place][:1]:
-            pulse.mask |= mask
-
-
-@named("pulses behind the first that waits keep removed relays")
-class _(Refilling):
-    def remove(self, place):
-        super().remove(place)
-        for pulse, mask in self.had[place][2:]:
-            pulse.mask |= mask
-
-
-@named("last pulse keeps removed relays")
-class _(Refilling):
-    def remove(self, place):
-        super().remove(place)
-        for pulse, mask in self.had[place][-1:]:
-            pulse.mask |= mask
+keeping("running pulse keeps removed relays", lambda pulses: pulses[:1])
+keeping("waiting pulses keep removed relays", lambda pulses: pulses[1:])
+keeping("pulses behind the first that waits keep removed relays", lambda pulses: pulses[2:])
+keeping("last pulse keeps removed relays", lambda pulses: pulses[-1:])
 
 
 @named("states shown of relays that left the mask")
@@ -3048,72 +3001,33 @@ class _(Box):
             pulse.states = before
 
 
-def left_bare(box, place):
-    """The pulses that a removal has left without relays."""
-    return [pulse for pulse, mask in box.had[place] if mask and not pulse.mask]
+def baring(name, running, waiting):
+    """A box that does something to a pulse which a module leaves without relays: one thing if it runs, another if it waits."""
+    def also(box, place, marks):
+        for pulse, mask, _ in box.stood[place]:
+            if mask and not pulse.mask:
+                (running if pulse is box.queue[0] else waiting)(box, pulse)
+    removing(name, also)
 
 
-@named("waiting pulse left without relays leaves the queue")
-class _(Refilling):
-    def remove(self, place):
-        super().remove(place)
-        bare = left_bare(self, place)
-        self.queue[1:] = [pulse for pulse in self.queue[1:] if pulse not in bare]
+def nothing(box, pulse):
+    pass
 
 
-@named("running pulse left without relays ends at once")
-class _(Refilling):
-    def remove(self, place):
-        super().remove(place)
-        if self.queue[:1] and self.queue[0] in left_bare(self, place):
-            self.run_down(self.left)
+def shorten(box, pulse):
+    pulse.duration = 1
 
 
-@named("running pulse left without relays has one ms left")
-class _(Refilling):
-    def remove(self, place):
-        super().remove(place)
-        if self.queue[:1] and self.queue[0] in left_bare(self, place):
-            self.left = 1
+baring("running pulse left without relays ends at once", lambda box, pulse: box.run_down(box.left), nothing)
+baring("running pulse left without relays has one ms left", lambda box, pulse: box.run_down(box.left - 1), nothing)
+baring("running pulse left without relays begins its time anew",
+       lambda box, pulse: box.run_down(box.left - pulse.duration), nothing)
+baring("waiting pulse left without relays leaves the queue", nothing, lambda box, pulse: box.queue.remove(pulse))
+baring("waiting pulse left without relays has one ms left", nothing, shorten)
 
-
-@named("running pulse left without relays begins its time anew")
-class _(Refilling):
-    def remove(self, place):
-        super().remove(place)
-        if self.queue[:1] and self.queue[0] in left_bare(self, place):
-            self.left = self.queue[0].duration
-
-
-@named("waiting pulse left without relays has one ms left")
-class _(Refilling):
-    def remove(self, place):
-        super().remove(place)
-        for pulse in left_bare(self, place):
-            if pulse is not self.queue[0]:
-                pulse.duration = 1
-
-
-@named("emptying ends the running pulse")
-class _(Box):
-    def remove(self, place):
-        super().remove(place)
-        if self.queue:
-            self.run_down(self.left)
-
-
-@named("emptying drops the queue")
-class _(Box):
-    def remove(self, place):
-        super().remove(place)
-        self.queue = []
-
-
-@named("emptying drops the waiting pulses")
-class _(Box):
-    def remove(self, place):
-        super().remove(place)
-        del self.queue[1:]
+removing("emptying ends the running pulse", lambda box, place, marks: box.run_down(box.left))
+removing("emptying drops the queue", lambda box, place, marks: box.queue.clear())
+removing("emptying drops the waiting pulses", lambda box, place, marks: [box.queue.remove(pulse) for pulse in box.queue[1:]])
 
 
 def losing(name, lost):
@@ -3121,9 +3035,9 @@ def losing(name, lost):
     @named(name)
     class _(Box):
         def remove(self, place):
-            super().remove(place)
             for pulse in self.queue:
                 pulse.lose(lost(place))
+            super().remove(place)
 
 
 losing("all relays leave the masks with a module", lambda place: 0xFFFF)
@@ -3391,8 +3305,7 @@ class _(Box):
     def level(self, k, v):
         marks = marks_of(self)
         answer = super().level(k, v)
-        for conn, (due, due2) in zip(self.connections, marks):
-            conn.due2 = due2
+        marks2_again(self, marks)
         return answer
 
 
@@ -3461,8 +3374,7 @@ def not_marking(name, method):
     def does(self, *words):
         marks = marks_of(self)
         answer = getattr(Box, method)(self, *words)
-        for conn, (due, due2) in zip(self.connections, marks):
-            conn.due2 = due2
+        marks2_again(self, marks)
         return answer
     named(name)(type("_", (Box,), {method: does}))
 
@@ -3599,7 +3511,7 @@ framing("a byte between the two messages", lambda box, contents: box.frame(conte
 # What type 2 says.
 
 def telling_deck(name, content):
-    """A box whose External Monitor message is another; `content` gives it from the box, which relays are present, and the right one."""
+    """A box whose External Monitor message is another; `content` gives it from the box, what is present, and the right one."""
     @named(name)
     class _(Box):
         def external_content(self):
@@ -3692,11 +3604,11 @@ def listing_deck(name, ids):
             return tuple(ids(self, super().deck_ids()))
 
 
-listing_deck("IDs of absent relays listed", lambda box, ids: model.DECK_IDS)
-listing_deck("IDs of both modules listed with one", lambda box, ids: model.DECK_IDS if ids else ())
+listing_deck("IDs of absent relays listed", lambda box, ids: DECK_IDS)
+listing_deck("IDs of both modules listed with one", lambda box, ids: DECK_IDS if ids else ())
 listing_deck("IDs of modules' relays not listed", lambda box, ids: ())
 listing_deck("IDs of one module listed at most", lambda box, ids: ids[:4])
-listing_deck("second module alone listed as relays 9 to 12", lambda box, ids: model.DECK_IDS[:len(ids)])
+listing_deck("second module alone listed as relays 9 to 12", lambda box, ids: DECK_IDS[:len(ids)])
 listing_deck("IDs of the second module listed first", lambda box, ids: ids[4:] + ids[:4])
 listing_deck("modules' relays listed falling", lambda box, ids: ids[::-1])
 listing_deck("modules' first relays alone listed", lambda box, ids: ids[::4])
@@ -3729,7 +3641,7 @@ class _(Box):
 
 def on_deck(box, id):
     """The relay of the second deck that has this ID, if its module is present."""
-    return box.relays[model.DECK_IDS.index(id) + 8] if id in box.deck_ids() else None
+    return box.relays[DECK_IDS.index(id) + 8] if id in box.deck_ids() else None
 
 
 @named("read block of a module's relay: its state")
@@ -3749,7 +3661,7 @@ class _(Box):
 @named("read block of an absent relay as of one that is open")
 class _(Box):
     def read_block(self, id):
-        return bytes(10) if id in model.DECK_IDS and not on_deck(self, id) else super().read_block(id)
+        return bytes(10) if id in DECK_IDS and not on_deck(self, id) else super().read_block(id)
 
 
 @named("reading the second deck refused")
@@ -3757,7 +3669,7 @@ class _(Box):
     def read_devices(self, conn, fields):
         answer = super().read_devices(conn, fields)
         ids = [number(fields.content[k:k + 8]) for k in range(3, len(fields.content), 8)]
-        if any(id in model.DECK_IDS for id in ids):
+        if any(id in DECK_IDS for id in ids):
             raise Refused(OUT_OF_RANGE)
         return answer
 
@@ -3802,7 +3714,7 @@ class _(Box):
 @named("write entry to an absent relay counted")
 class _(Box):
     def write_entry(self, id, block):
-        return id in model.DECK_IDS and not on_deck(self, id) or super().write_entry(id, block)
+        return id in DECK_IDS and not on_deck(self, id) or super().write_entry(id, block)
 
 
 @named("write entry to the second deck refuses the message")
@@ -3816,7 +3728,7 @@ class _(Box):
         return answer
 
     def write_entry(self, id, block):
-        self.seen |= id in model.DECK_IDS
+        self.seen |= id in DECK_IDS
         return super().write_entry(id, block)
 
 
@@ -3827,7 +3739,7 @@ class _(Box):
         return super().write_devices(conn, fields)
 
     def write_entry(self, id, block):
-        self.stopped |= id in model.DECK_IDS
+        self.stopped |= id in DECK_IDS
         return not self.stopped and super().write_entry(id, block)
 
 
@@ -3925,15 +3837,21 @@ class _(Box):
 # The program
 # ---------------------------------------------------------------------------------------------
 
+def counted(trace):
+    """The lines of a trace, each with what the model prints and how many events there are up to it."""
+    events = itertools.accumulate(traces.answer_of(*said) is not None for said in zip(trace.lines, trace.printed))
+    return list(zip(trace.lines, trace.printed, events))
+
+
 def caught_after(box_class, made):
     """The number of events until a line differs from the model's; None if none does."""
-    events = 0
-    for trace in made:
+    before = 0
+    for lines in made:
         box = box_class()
-        for index, (line, printed) in enumerate(zip(trace.lines, trace.printed)):
+        for line, printed, events in lines:
             if box.line(line) != printed:
-                return events + traces.events_of(trace, index + 1)
-        events += trace.events
+                return before + events
+        before += events
     return None
 
 
@@ -3953,8 +3871,8 @@ def main():
         model.main()
         return 0
     start = time.process_time()
-    made = list(traces.many(options.seed, options.events, options.length))
-    events = sum(trace.events for trace in made)
+    made = [counted(trace) for trace in traces.many(options.seed, options.events, options.length)]
+    events = sum(lines[-1][2] for lines in made)
     for name in ("crc16", "numbers", "piece_of"):               # the same lines are read for every fault
         setattr(model, name, functools.cache(getattr(model, name)))
     free = []

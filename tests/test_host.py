@@ -651,6 +651,18 @@ class SecondDeck(Case):
             host.quit()
             judge(host, [client])
 
+    def test_login(self):
+        """Neither message comes before a login, and both come behind it."""
+        with Boxd("--quiet", "--users", self.users_file(adduser.line("anna", 1, b"salmon", 1000))) as host:
+            self.say(host, "filled 1", "is filled")
+            with Client(host.port) as client:
+                client.send(command(1, 9) + login(b"anna", b"salmon"))
+                self.assertEqual(self.kinds(client, 3), [125, 1, 2])
+                client.send(command(1, 9))
+                self.assertEqual(outputs(client.next()), [1, 0, 0, 0])
+            host.quit()
+        self.assertEqual((host.count(refused(LOW_RANK)), host.count("relay 9 is closed now")), (1, 1))
+
     def test_told(self):
         """What is said of commands to relays 9 to 16, and of those whose module is not there."""
         absent = "sent a message of type 10; " + refused(OUT_OF_RANGE) + ": relay {}: no module at place {}"

@@ -114,6 +114,16 @@ def shown_open(*relays, closed=()):
     return {k: k in closed for k in relays}
 
 
+def listed(*relays):
+    """What the box answers to EnumerateDevices, as far as relays go."""
+    return b"\x1B\x01" + field(len(relays), 2) + b"".join(field(0x0100FF + 0x100 * k, 8) for k in relays)
+
+
+def external(*states):
+    """Type 2 with the states of so many relays."""
+    return b"\x02\x00" + bytes([len(states), *states]) + field(7, 8)
+
+
 def free_port():
     with socket.socket() as probe:
         probe.bind(("127.0.0.1", 0))
@@ -312,6 +322,16 @@ class Case(unittest.TestCase):
                 panel.wait_until(lambda s: s["answers"] and deck(s) == shown_open(13, 14, 15, 16))
                 again.quit()
 
+    def test_deck_of_an_earlier_connection(self):
+        """M-102: what was listed on one connection says nothing of the states that come on the next."""
+        with socket.create_server(("127.0.0.1", 0)) as listener, Panel(listener.getsockname()[1]) as panel:
+            with listener.accept()[0] as first:
+                first.sendall(frame(listed(9, 10, 11, 12)) + frame(external(0, 0, 0, 0)))
+                panel.wait_until(lambda s: deck(s) == shown_open(9, 10, 11, 12))
+            with listener.accept()[0] as second:
+                second.sendall(frame(external(1, 0, 0, 0)) + custom_answer(b"\x05"))
+                self.assertEqual(deck(panel.wait_until(lambda s: s["standing"] == 5)), shown_open(9, 10, 11, 12))
+
     def test_deck_of_a_plain_box(self):
         """M-102: the same of a box whose host answers nothing of its own: both messages come in one piece, in answer to request 1."""
         for modules, relays in (((1,), range(9, 13)), ((2,), range(13, 17)), ((1, 2), range(9, 17))):
@@ -336,13 +356,6 @@ class Case(unittest.TestCase):
         """M-102: which relays are there the list of devices tells, their states type 2; where one of the two is missing, or they do not go together, the
         deck is not shown otherwise than before, and after a whole round without type 2 not at all.
         """
-        def listed(*relays):
-            ids = [0x0100FF + 0x100 * k for k in relays]
-            return b"\x1B\x01" + field(len(ids), 2) + b"".join(field(id, 8) for id in ids)
-
-        def external(*states):
-            return b"\x02\x00" + bytes([len(states), *states]) + field(7, 8)
-
         clock = b"\x06" + field(9, 8)
         one, two = range(9, 13), range(13, 17)
         for contents, shown in (

@@ -29,11 +29,6 @@ def answer_of(line, printed):
     return int(first) if first.isdigit() else None
 
 
-def events_of(trace, lines):
-    """How many events a trace has in so many lines."""
-    return sum(answer_of(line, printed) is not None for line, printed in zip(trace.lines[:lines], trace.printed))
-
-
 def framed(content, sent=None, length=None):
     """A frame, right unless another checksum or length is given."""
     sent = crc16(content) if sent is None else sent
@@ -620,7 +615,7 @@ class Maker:
     def spoilt_count(self, count, one_in=12):
         if not self.one_in(one_in):
             return count
-        return self.pick(max(0, count - 1), count + 1, count | 0x100, 0x8000 | count, 0xFFFF, 0)
+        return self.pick(max(0, count - 1), count + 1, count | 0x100, 0x2000 | count, 0x8000 | count, 0xFFFF, 0)
 
     def write_content(self):
         size = self.weighted(((0, 1), (1, 8), (2, 4), (3, 4), (self.rng.randrange(4, 12), 4),
@@ -1140,13 +1135,13 @@ class Maker:
     SCENES = (scene_count_top, scene_count_alarm, scene_usage_alarm, scene_clock, scene_nothing_changed,
               scene_there_and_back, scene_monitor_off_and_on, scene_half_and_close, scene_two_halves, scene_byte_by_byte,
               scene_meanwhile, scene_meanwhile, scene_cancelling, scene_cancelling, scene_full_queue, scene_truly_0xffff,
-              scene_strict_anew, scene_two_strictnesses, scene_lengths_in_a_row, scene_lengths_in_a_row, scene_place_gone,
-              scene_place_gone, scene_wrong_length_without_a_rank, scene_places, scene_channels, scene_removed,
+              scene_strict_anew, scene_two_strictnesses, scene_lengths_in_a_row, scene_lengths_in_a_row, scene_lengths_in_a_row,
+              scene_place_gone, scene_place_gone, scene_wrong_length_without_a_rank, scene_places, scene_channels, scene_removed,
               scene_pulsed_and_removed, scene_pulsed_and_removed, scene_two_marks, scene_two_marks, scene_opened_beside_modules,
               scene_deck_ids)
 
     STEPS = ((do_talk, 74), (do_level, 7), (do_pass, 5), (do_collect, 7), (do_open, 6), (do_close, 2.5), (do_state, 5),
-             (do_power, .4), (do_bad_line, 2), (do_place, 2.5), (do_scene, 8.5))
+             (do_power, .4), (do_bad_line, 2), (do_place, 2.5), (do_scene, 9))
 
     def make(self, events):
         if not self.one_in(5):                                  # the tool starts as after `power`
