@@ -154,7 +154,7 @@ def main():
              b"06", b"31", b"64", b"\n"]
     text = b"".join(noise.choice(words) if noise.random() < 0.9 else bytes([noise.randrange(256)]) for _ in range(60000)) + b"\n"
     pages = examples()
-    if [len(block) for block in pages] != [7, 13, 12, 10]:
+    if [len(block) for block in pages] != [7, 13, 12, 10, 20]:
         sys.exit(f"bad_lines: {PAGE} has other examples than were counted: {[len(block) for block in pages]}")
     # The longest piece there is: 100,000 stray bytes, of which the first is taken; and the same unread, of a shut connection.
     longest = [("open 0 0", "1"), ("bytes 0 4096 " + "00" * 100000, "5 1 0 0 -"), ("bytes 1 4096 " + "00" * 100000, "3 0 0 0 -"),

@@ -77,10 +77,12 @@ LAST_REFUSED = frame(b"\xFF" + string(b"refused") + b"\x00\x00\x00")
 # ---------------------------------------------------------------------------------------------
 
 class Program:
-    """A program that runs; its lines are read as they come, so that it never waits for us."""
+    """A program that runs; its lines are read as they come, so that it never waits for us.  Each read takes all that a pipe holds: on a busy machine
+    the next may come late, and the host leaves lines out then.
+    """
 
     def __init__(self, words, **more):
-        self.process = subprocess.Popen(words, stdin=subprocess.PIPE, stdout=subprocess.PIPE, stderr=subprocess.STDOUT, **more)
+        self.process = subprocess.Popen(words, bufsize=65536, stdin=subprocess.PIPE, stdout=subprocess.PIPE, stderr=subprocess.STDOUT, **more)
         self.lines = []
         self.over = self.finished = False
         self.came = threading.Condition()
@@ -374,7 +376,7 @@ def judge(host, clients):
     played = Played(host.trace)
     ports = [int(found.group(1)) for found in (re.search(r"connection \d: 127\.0\.0\.1:(\d+) connected", line) for line in host.lines)
              if found]
-    assert len(ports) == len(played.sessions)
+    assert len(ports) == len(played.sessions), [line for line in host.lines if "left out" in line]
     of_port = dict(zip(ports, played.sessions))
     for client in clients:
         session = of_port[client.port]

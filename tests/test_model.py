@@ -2237,10 +2237,10 @@ class Tools(unittest.TestCase):
         def present(box, id):
             return "present" if id in box.deck_ids() else "absent"
 
-        def where(box, channel):
+        def acting(box, action, channel):
             if 1 <= channel <= 16:
-                return len(box.filled), "1 to 8" if channel <= 8 else "present" if channel in box.deck() else "absent"
-            return "any", "above 16" if channel else "0"
+                return action, "1 to 8" if channel <= 8 else "present" if channel in box.deck() else "absent", len(box.filled)
+            return "switching" if action <= 3 else "pulse" if action == 6 else "clearing", "above 16" if channel else "0"
 
         class Counting(Box):
             closed = frozenset()
@@ -2274,7 +2274,7 @@ class Tools(unittest.TestCase):
                 super().remove(place)
 
             def judge_channel(self, action, channel):
-                seen["action", action, *where(self, channel)] += 1
+                seen["action", *acting(self, action, channel)] += 1
                 super().judge_channel(action, channel)
 
             def pulse(self, mask, states, duration):
@@ -2342,9 +2342,9 @@ class Tools(unittest.TestCase):
         kinds += [("removed under a pulse", which, of) for which in ("running", "waiting")
                   for of in ("its own", "the other's", "1 to 8", "none")]
         kinds += ["removed under a pulse that found it closed", "back with relays that were closed"]
-        kinds += [("action", action, filled, of) for action in (1, 2, 3, 6, 5, 8, 9) for filled, of in (
-            (0, "1 to 8"), (0, "absent"), (1, "1 to 8"), (1, "present"), (1, "absent"), (2, "1 to 8"), (2, "present"), ("any", "0"),
-            ("any", "above 16"))]
+        kinds += [("action", action, of, filled) for action in (1, 2, 3, 6, 5, 8, 9) for of, filled in (
+            ("1 to 8", 0), ("absent", 0), ("1 to 8", 1), ("present", 1), ("absent", 1), ("1 to 8", 2), ("present", 2))]
+        kinds += [("action", action, of) for action in ("switching", "pulse", "clearing") for of in ("0", "above 16")]
         kinds += [("pulse of a module", "begins"), ("pulse of a module", "waits")]
         kinds += [("end of a module's pulse", "closed"), ("end of a module's pulse", "open")]
         kinds += [("opened", rank, filled) for rank in (0, 1, 2) for filled in (0, 1, 2)]

@@ -885,7 +885,7 @@ class Maker:
         rank = self.rng.randrange(2)
         self.say(f"close {c}")
         self.say(f"open {c} {rank}{self.strict()}")
-        for _ in range(self.pick(2, 3, 4)):
+        for _ in range(self.pick(3, 4, 5)):
             content = self.clock_setting() if rank else self.of_any_type()
             self.send(c, self.pick(self.off_length(content), content[:self.pick(1, 2, 3)]))
         self.say(f"close {c}")
@@ -1027,17 +1027,18 @@ class Maker:
         self.look(c)
 
     def scene_removed(self, c):
-        """Relays of some places closed, then a place emptied, beside another that is filled or not, and filled again."""
+        """A module comes beside another or alone, relays are closed, and it goes, and comes again."""
         place = self.pick(*PLACES)
-        self.fill_just(*self.pick((place,), (1, 2), (1, 2)))
-        one, other, any = self.of_deck(place), self.of_deck(3 - place), self.relay()
-        for channel in self.pick((), (one,), (other,), (one, other), (one, other, any)):
+        self.fill_just(*self.pick((), (3 - place,), (3 - place,)))
+        self.say(f"fill {place}")
+        one, other, third = self.of_deck(place), self.of_deck(3 - place), self.relay()
+        for channel in self.pick((), (one,), (other,), (one, other), (one, other, third)):
             self.work(c, 1, channel)
         self.say(f"collect {c} 4096")
         if self.one_in(3):
             self.say(f"fill {place}")
             self.look(c)
-        for _ in range(self.pick(1, 1, 2)):
+        for _ in range(self.pick(1, 2)):
             self.say(f"empty {place}{self.row(6)}")
             self.look(c)
         self.say(f"fill {place}{self.row(6)}")
@@ -1140,8 +1141,8 @@ class Maker:
               scene_pulsed_and_removed, scene_pulsed_and_removed, scene_two_marks, scene_two_marks, scene_opened_beside_modules,
               scene_deck_ids)
 
-    STEPS = ((do_talk, 74), (do_level, 7), (do_pass, 5), (do_collect, 7), (do_open, 6), (do_close, 2.5), (do_state, 5),
-             (do_power, .4), (do_bad_line, 2), (do_place, 2.5), (do_scene, 9))
+    STEPS = ((do_talk, 84), (do_level, 7), (do_pass, 5), (do_collect, 7), (do_open, 6), (do_close, 2.5), (do_state, 5),
+             (do_power, .4), (do_bad_line, 2), (do_place, 2.5), (do_scene, 8.5))
 
     def make(self, events):
         if not self.one_in(5):                                  # the tool starts as after `power`

@@ -1,4 +1,3 @@
-pub mod Calling
 pub mod Stored
 pub mod Turns
 pub mod Types

@@ -46,7 +46,7 @@ use Rattle.pieces.specs.declared.Done.{Done}
 use Rattle.board.specs.declared.Taken.{Taken}
 use Rattle.pieces.specs.Effects.{Effect, Answers}
 use Rattle.pieces.specs.Pieces.{bytesCall, halvesAfter, roomsAfter}
-use Rattle.capi.proofs.Calling.{token, told, gets, asks-one, all-said, four}
+use Rattle.lent.proofs.Calling.{token, told, gets, asks-one, all-said, four}
 use Rattle.capi.proofs.Types.{board-type, board-slot, board-ref}
 use Rattle.capi.proofs.Stored.{stored}
 use Rattle.ring.proofs.Pulse as P

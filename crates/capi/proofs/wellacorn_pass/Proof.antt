@@ -48,7 +48,7 @@ use Rattle.pieces.specs.declared.Done.{Done}
 use Rattle.pieces.specs.Effects.{Ends}
 use Rattle.board.specs.Calls.{passCall, passedIn}
 use Rattle.board.proofs.Timed.{pass-ends}
-use Rattle.capi.proofs.Calling.{at-value, OwnAt, token, told, gets, asks-one, lends, back, both}
+use Rattle.lent.proofs.Calling.{at-value, OwnAt, token, told, gets, asks-one, lends, back, both}
 use Rattle.capi.proofs.Turns.{going-on, over, pulsed-ends}
 use Rattle.capi.proofs.Types.{board-type, board-slot, board-ref}
 use Rattle.ring.proofs.Pulse as P

@@ -50,7 +50,7 @@ use Rattle.pulses.proofs.Passing.{Passing, waiting, passing-start}
 use Rattle.pieces.specs.Effects.{Ends}
 use Rattle.board.specs.Calls.{passCall, passedIn}
 use Rattle.board.proofs.Timed.{pass-ends}
-use Rattle.capi.proofs.Calling.{rest-of, at-value, OwnAt, token, told, gets, asks-one, lends, back}
+use Rattle.lent.proofs.Calling.{rest-of, at-value, OwnAt, token, told, gets, asks-one, lends, back}
 use Rattle.capi.proofs.Turns.{going-on, over, turned}
 use Rattle.capi.proofs.Types.{board-type, board-slot, board-ref}
 use Rattle.ring.proofs.Pulse as P

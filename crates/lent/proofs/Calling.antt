@@ -1,4 +1,4 @@
--- Steps that the walks of this crate take, each said once. They say nothing of the crate.
+-- Steps that walks take, here and in the crate `capi`, each said once. They say nothing of either crate.
 --     told         a callee has returned: its tokens, what it leaves of its parameters, what is known of its result, and what it ensures
 --     gets         a callee that takes values alone is called, and the same is known of its result
 --     asks-one     what a callee asks that takes one value
