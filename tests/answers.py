@@ -15,7 +15,8 @@ BAD_CHECKSUM = 7        # line 7: neither the content's checksum nor 0xFFFF
 NOT_OFFERED = 8         # line 8: no content, or a type that the box does not serve
 LOW_RANK = 9            # line 9: the type needs a higher rank
 # line 10 is given no more: 02, M-105, 1 has 20, 21 and 22 instead
-OUT_OF_RANGE = 11       # line 11: a number in a message or a level event that stands for nothing; 02, M-100, 7: a pulse of 0 ms
+OUT_OF_RANGE = 11       # line 11: a number in a message or a level event that stands for nothing; 02, M-100, 7: a pulse of 0 ms; 02, M-102, 12:
+                        # a place that there is not, or a channel whose module is absent
 ALREADY_OPEN = 12       # line 12: an opening of a connection that is not shut
 BAD_RANK = 13           # line 13: an opening at a rank that there is not
 QUEUE_FULL = 14         # 02, M-100, 7: a pulse, while 31 stand

@@ -3,6 +3,7 @@
 Nothing here waits for a fixed time.  A wait ends with what is waited for, or fails after PATIENCE.
 """
 
+import fcntl
 import os
 import re
 import select
@@ -77,12 +78,13 @@ LAST_REFUSED = frame(b"\xFF" + string(b"refused") + b"\x00\x00\x00")
 # ---------------------------------------------------------------------------------------------
 
 class Program:
-    """A program that runs; its lines are read as they come, so that it never waits for us.  Each read takes all that a pipe holds: on a busy machine
-    the next may come late, and the host leaves lines out then.
+    """A program that runs; its lines are read as they come, so that it never waits for us.  On a busy machine they are read late, so the pipe is large:
+    the host leaves lines out that find no room.
     """
 
     def __init__(self, words, **more):
-        self.process = subprocess.Popen(words, bufsize=65536, stdin=subprocess.PIPE, stdout=subprocess.PIPE, stderr=subprocess.STDOUT, **more)
+        self.process = subprocess.Popen(words, stdin=subprocess.PIPE, stdout=subprocess.PIPE, stderr=subprocess.STDOUT, **more)
+        fcntl.fcntl(self.process.stdout, fcntl.F_SETPIPE_SZ, 1 << 20)
         self.lines = []
         self.over = self.finished = False
         self.came = threading.Condition()

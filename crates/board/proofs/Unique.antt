@@ -7,6 +7,8 @@ use Rattle.board.proofs.passed.Reads as passed
 use Rattle.board.proofs.connect.Reads as connect
 use Rattle.board.proofs.close.Reads as close
 use Rattle.board.proofs.collect.Reads as collect
+use Rattle.board.proofs.fill.Reads as fill
+use Rattle.board.proofs.empty.Reads as empty
 use Rattle.board.proofs.bytes.Reads as bytes
 use Rattle.board.proofs.done_of.Reads as done-of
 use Rattle.board.proofs.seat.Reads as seat
@@ -47,3 +49,9 @@ unique-board-seat κs a r r′ s s′ p q = p ∙ sym q
 
 pub unique-board-pulse-of : (κs : _) (a : _) (r r′ : _) (s s′ : _) → pulse-of.Post κs a r s → pulse-of.Post κs a r′ s′ → r ≡ r′
 unique-board-pulse-of κs a r r′ s s′ p q = p ∙ sym q
+
+pub unique-board-fill : (κs : _) (a : _) (r r′ : _) (s s′ : _) → fill.Post κs a r s → fill.Post κs a r′ s′ → (r ≡ r′) × (now (s .0) ≡ now (s′ .0))
+unique-board-fill κs a r r′ s s′ p q = ends p q
+
+pub unique-board-empty : (κs : _) (a : _) (r r′ : _) (s s′ : _) → empty.Post κs a r s → empty.Post κs a r′ s′ → (r ≡ r′) × (now (s .0) ≡ now (s′ .0))
+unique-board-empty κs a r r′ s s′ p q = ends p q

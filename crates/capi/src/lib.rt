@@ -9,7 +9,8 @@ ghost use Rattle.powerup.specs.PowerUp.{poweredUp};
 ghost use Rattle.halves.specs.Halves.{dropped};
 ghost use Rattle.pieces.specs.Effects.{Ends, Answers};
 ghost use Rattle.pieces.specs.Pieces.{bytesCall, halvesAfter, roomsAfter};
-ghost use Rattle.board.specs.Calls.{levelCall, passCall, passedIn, connectCall, closeCall, collectCall};
+ghost use Rattle.filling.specs.Filling.{rowEmptied};
+ghost use Rattle.board.specs.Calls.{levelCall, passCall, passedIn, connectCall, closeCall, collectCall, fillCall, emptyCall};
 use pieces::Done;
 use powerup::Settings;
 use ring::Pulse;
@@ -114,10 +115,36 @@ pub extern "C" fn wellacorn_bytes(
     board::done_of(t)
 }
 
-// Monitor is collected on connection c, if it is due.
+// What is due is collected on connection c.
 #[no_mangle]
 pub extern "C" fn wellacorn_collect(board: &mut [[u64; 8]; ROWS], c: u8, reply: &mut [u8]) -> Done
     ensures { λ r. ⌜ Answers (collectCall c (length (now (reply .entry))) (now (board .entry))) (now (board .exit)) (now (reply .entry)) (now (reply .exit)) r ⌝ }
 {
     board::collect(board, c, reply)
+}
+
+// A place of the second deck is filled. Of the row its length is asked, and no record is looked at.
+#[no_mangle]
+pub extern "C" fn wellacorn_fill(board: &mut [[u64; 8]; ROWS], row: &[Pulse], place: u8) -> Done
+    ensures { λ r. ⌜ Ends (fillCall place (length (now (row .entry))) (now (board .entry))) (now (board .exit)) r ⌝ }
+{
+    let records = row.len();
+    board::fill(board, records, place)
+}
+
+// A place of the second deck is emptied: the pulses that stand lose its relays.
+#[no_mangle]
+pub extern "C" fn wellacorn_empty(
+    board: &mut [[u64; 8]; ROWS],
+    row: &mut [Pulse],
+    place: u8,
+) -> Done
+    ensures { λ r. ⌜ Ends (emptyCall place (length (now (row .entry))) (now (board .entry))) (now (board .exit)) r ⌝ }
+    ensures { λ r. ⌜ now (row .exit) ≡ rowEmptied place (now (board .entry)) (now (row .entry)) ⌝ }
+{
+    let records = row.len();
+    let q = rows::queue_of(board);
+    let n = filling::losing_of(board, records, place);
+    lent::lose_first(row, q, n, place);
+    board::empty(board, records, place)
 }
