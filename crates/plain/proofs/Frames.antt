@@ -21,7 +21,7 @@ use Rattle.answers.proofs.Replying.{part-long, given-back}
 use Rattle.rows.specs.declared.Line.{Line}
 use Rattle.rows.specs.Places.{Board}
 use Rattle.readings.specs.Readings.{monitorReply, externalReply, externalRoom}
-use Rattle.readings.proofs.Lengths.{length-monitor}
+use Rattle.readings.proofs.Lengths.{length-monitor, length-external}
 use Rattle.plain.specs.Events.{ifWanted, dueReplies, Behind}
 
 -- the part of a buffer behind `at` bytes
@@ -72,6 +72,16 @@ pub monitor-few : (wanted : Bool) (b : Board) → length (framesOf (ifWanted wan
 unfolding framesOf
 monitor-few true b = omega (arith, ap length (append-nil (frameOf (monitorReply b))), length-monitor b)
 monitor-few false b = omega arith
+
+-- the External one 24 at most
+pub external-few : (wanted : Bool) (b : Board) → length (framesOf (ifWanted wanted (externalReply b))) ≤ 24
+unfolding framesOf
+external-few true b = omega (arith, ap length (append-nil (frameOf (externalReply b))), length-external b)
+external-few false b = omega arith
+
+pub no-bytes : length (framesOf []) ≡ 0
+unfolding framesOf
+no-bytes = refl
 
 -- what is due, one behind the other
 pub both-sent : (l : Line) (b : Board) {at r : ℕ} {o₀ o o′ : List ℕ} → Wrote 0 (framesOf (ifWanted (l .due) (monitorReply b))) o₀ o at

@@ -11,30 +11,32 @@ use Prim.Native.Nat.{ℕ, _≤_}
 use native.Mathlib.Omega.{arith}
 use borrow.Author.Tests.{ltb-false}
 use lib.Dec.{leb}
-use lib.ListN.{length, take, length-take}
+use lib.ListN.{length-append, length, take, length-take}
 use denote.Ref.{now}
 use Rattle.laws.proofs.Put.{put-here}
 use Rattle.steps.specs.declared.Outcome.{Outcome}
 use Rattle.steps.specs.declared.Outcome.the-variants.{Waiting, KeepAlive, Stray, Message}
 use Rattle.steps.specs.Cut.{frame, tooLong}
 use Rattle.framing.specs.Reading.{gotOf}
-use Rattle.readings.specs.Readings.{monitorReply}
-use Rattle.readings.proofs.Lengths.{length-monitor}
-use Rattle.rows.specs.Places.{Board}
+use Rattle.readings.specs.Readings.{monitorReply, externalReply}
+use Rattle.rows.specs.declared.Line.{Line}
+use Rattle.rows.specs.Places.{Board, lineAt}
 use Rattle.laws.proofs.Tests.{by-cases}
 use Rattle.ring.specs.declared.Pulse.{Pulse}
 use Rattle.pulses.specs.Pulses.{shortRow}
 use Rattle.ring.specs.Ring.{rowAfter}
-use Rattle.plain.specs.Events.{leveled, timePassed, monitorSent}
+use Rattle.plain.specs.Events.{leveled, timePassed, ifWanted, monitorsSent}
+use Rattle.plain.proofs.Frames.{frames-append, monitor-few, external-few}
+use Rattle.filling.specs.Filling.{rowEmptied, filledAt, emptiedAt, placeFilled, placeEmptied}
 use Rattle.connections.specs.Lines.{connected, closed}
-use Rattle.answers.specs.Calls.{Did}
+use Rattle.answers.specs.Calls.{Did, framesOf}
 use Rattle.serving.specs.Serving.{servedMessage}
 use Rattle.serving.proofs.Lengths as serving
 use Rattle.halves.specs.Halves.{Halves}
 use Rattle.pieces.specs.declared.Done.{Done}
 use Rattle.pieces.specs.Effects.{Effect, Ends, Answers}
 use Rattle.pieces.specs.Pieces.{answered, fed, bytesCall, halvesAfter, roomsAfter}
-use Rattle.board.specs.Calls.{levelCall, passCall, connectCall, closeCall, collectCall}
+use Rattle.board.specs.Calls.{levelCall, passCall, connectCall, closeCall, collectCall, fillCall, emptyCall}
 use Rattle.powerup.proofs.power_up.Reads as power-up
 use Rattle.board.proofs.level.Reads as level
 use Rattle.board.proofs.connect.Reads as connect
@@ -43,8 +45,8 @@ use Rattle.board.proofs.collect.Reads as collect
 use Rattle.demand.specs.Demand as calls
 use Rattle.register.specs.Box as box
 use Rattle.register.specs.Box.{reply, replyOf, held, boxCall, saying, readOf, stepOf, atPowerUp}
-use Rattle.register.proofs.Longest.{framed-length, frame-reply}
-use Rattle.register.proofs.Cases.{bytes-cases, connect-cases, close-cases, collect-cases}
+use Rattle.register.proofs.Longest.{frame-reply}
+use Rattle.register.proofs.Cases.{bytes-cases, connect-cases, close-cases, collect-cases, place-cases}
 use Rattle.register.proofs.BoxCalls.{room-short}
 
 -- a reply is no longer than 3,437 bytes, whatever ended
@@ -60,9 +62,17 @@ module _ (c : ℕ) (p : Board) where
       go true = frame-reply c p sum (take len room) (omega (arith, length-take len room))
       go false = omega arith
 
-  monitor-reply : length (monitorSent c p .reply) ≤ 3437
-  unfolding monitorSent
-  monitor-reply = omega (arith, framed-length (monitorReply p), length-monitor p)
+  monitor-reply : length (monitorsSent c p .reply) ≤ 3437
+  unfolding monitorsSent
+  monitor-reply =
+      let l : Line = lineAt c p in
+      rw (frames-append (ifWanted (l .due) (monitorReply p)) (ifWanted (l .external) (externalReply p)))
+      (omega (
+        arith,
+        length-append (framesOf (ifWanted (l .due) (monitorReply p))) (framesOf (ifWanted (l .external) (externalReply p))),
+        monitor-few (l .due) p,
+        external-few (l .external) p,
+      ))
 
 -- of a call that lends a buffer, so it fits
 bytes-fits : (c records : ℕ) (piece : List ℕ) (b : Board) (hs : Halves) (rooms o : List ℕ)
@@ -136,6 +146,20 @@ contract-collect κs a r s p hs rooms row =
     let b : Board = now (a .0) in
     let o : List ℕ = now (a .1 .1 .0) in
     rw (read-back (collectCall (a .1 .0) (length o) b) (now (s .0)) o (now (s .1 .1 .0)) r p (collect-fits (a .1 .0) b o), p .gives, p .board)
+
+-- of a place: board, halves, rooms and row
+pub contract-fill : (place : ℕ) (row : List Pulse) (b b′ : Board) (r : Done) → Ends (fillCall place (length row) b) b′ r → (hs : Halves) (rooms : List ℕ)
+    → boxCall (held b hs rooms row) (calls.other (box.fill place)) ≡ stepOf b′ hs rooms row r (calls.did (readOf r []))
+unfolding fillCall placeFilled
+contract-fill place row b b′ r p hs rooms =
+    rw (p .gives, p .board, unread (placeFilled (length row) place b) (place-cases filledAt (length row) place b (λ (d : Did). d .reply ≡ []) refl refl refl))
+
+pub contract-empty : (place : ℕ) (row row′ : List Pulse) (b b′ : Board) (r : Done) → Ends (emptyCall place (length row) b) b′ r
+    → row′ ≡ rowEmptied place b row → (hs : Halves) (rooms : List ℕ)
+    → boxCall (held b hs rooms row) (calls.other (box.empty place)) ≡ stepOf b′ hs rooms row′ r (calls.did (readOf r []))
+unfolding emptyCall placeEmptied
+contract-empty place row row′ b b′ r p e hs rooms =
+    rw (p .gives, p .board, e, unread (placeEmptied (length row) place b) (place-cases emptiedAt (length row) place b (λ (d : Did). d .reply ≡ []) refl refl refl))
 
 -- of bytes: board, halves, rooms, row and reply buffer, before the call and after it
 pub contract-bytes : (c : ℕ) (piece : List ℕ) (b b′ : Board) (hs hs′ : Halves) (rooms rooms′ : List ℕ) (row row′ : List Pulse) (o o′ : List ℕ) (r : Done)

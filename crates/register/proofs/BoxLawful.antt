@@ -31,8 +31,8 @@ use Rattle.demand.specs.Demand.{refused, did, Call, bytes, other, feedsTo, Answ
 use Rattle.demand.specs.Lawful as lawful-spec
 use Rattle.demand.specs.Lawful.{Lawful, outside}
 use Rattle.demand.proofs.Meeting.{demand-3}
-use Rattle.register.specs.Box.{Event, level, pass, connect, close, collect, Reply, replyOf, refusing, Tables, refusalOf, happens, on, tablesAfter, served, Held, held, tablesOf, saying, boxCall, box}
-use Rattle.register.proofs.Touching.{as-open, unmarked-settled, level-event, pass-event, collect-touches}
+use Rattle.register.specs.Box.{Event, level, pass, connect, close, collect, fill, empty, Reply, replyOf, refusing, Tables, refusalOf, happens, on, tablesAfter, served, Held, held, tablesOf, saying, boxCall, box}
+use Rattle.register.proofs.Touching.{fill-event, empty-event, as-open, unmarked-settled, level-event, pass-event, collect-touches}
 use Rattle.register.proofs.Numbers.{Answering, message-judged, judged-answers}
 use Rattle.register.proofs.BoxCalls.{row-same, ready, feeds-effect, feeds-halves, feeds-rooms, bytes-touches, bytes-halves, bytes-rooms, bytes-half-apart, bytes-room-apart, dropped-apart, left-length, connect-apart, connect-keeps, connect-starts, close-shuts, close-apart}
 
@@ -129,6 +129,8 @@ keeps-event x (close d) c u w = by-cases (eqb c d) same (λ n. (dropped-apart d 
     same : eqb c d ≡ true → Keeps x (other (close d)) c
     same q = absurd (true≢false (sym (rw (eqb-true c d q) at w) ∙ close-shuts d (x .board)))
 keeps-event x (collect d room) c u w = (refl, refl)
+keeps-event x (fill place) c u w = (refl, refl)
+keeps-event x (empty place) c u w = (refl, refl)
 
 keeps : (x : Held) (k : Call served) (c : ℕ) → feedsTo served c k ≡ false → openAt x c ≡ true → openAt (after x k) c ≡ true → Keeps x k c
 keeps x (bytes d room p) c n u w = (
@@ -151,6 +153,8 @@ opens-event x (close d) c u w = by-cases (eqb c d) same (λ n. absurd (true≢fa
     same : eqb c d ≡ true → halfAt c (after x (other (close d)) .halves) ≡ start
     same q = absurd (true≢false (sym (rw (eqb-true c d q) at w) ∙ close-shuts d (x .board)))
 opens-event x (collect d room) c u w = absurd (true≢false (sym w ∙ as-open (collect-touches d room (x .board) .as-opened) c ∙ u))
+opens-event x (fill place) c u w = absurd (true≢false (sym w ∙ as-open (unmarked-settled (fill-event (length (x .row)) place (x .board))) c ∙ u))
+opens-event x (empty place) c u w = absurd (true≢false (sym w ∙ as-open (unmarked-settled (empty-event (length (x .row)) place (x .board))) c ∙ u))
 
 opens : (x : Held) (k : Call served) (c : ℕ) → openAt x c ≡ false → openAt (after x k) c ≡ true → halfAt c (after x k .halves) ≡ start
 opens x (bytes d room p) c u w =

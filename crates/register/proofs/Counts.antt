@@ -16,9 +16,11 @@ use Rattle.judges.specs.declared.Order.the-variants.{Refused, Clock, Monitor, U
 use Rattle.rows.specs.declared.Input.{Input}
 use Rattle.rows.specs.declared.Relay.{Relay}
 use Rattle.rows.specs.declared.Line.{Line}
-use Rattle.rows.specs.Rows.{isOn, word, stateWord, usageWord, inputIn, lineIn, shutLine}
-use Rattle.rows.specs.Places.{Board, isChannel, isConnection, rowAt, inputAt, relayAt, putInput, putRelay, putLine, clockSet, onRows, inputPlace, relayPlace, linePlace, firstInput, firstRelay, firstLine, clockRow, queueRow, queueOf, rows, lineAt}
+use Rattle.rows.specs.Rows.{isOn, word, stateWord, usageWord, externalWord, inputIn, lineIn, shutLine}
+use Rattle.rows.specs.Places.{Board, isChannel, isRelay, isConnection, rowAt, inputAt, relayAt, putInput, putRelay, putLine, clockSet, onRows, inputPlace, relayPlace, linePlace, firstInput, firstRelay, firstOuter, firstLine, clockRow, queueRow, queueOf, rows, lineAt}
 use Rattle.rows.proofs.Channel.{in-range, channel}
+use Rattle.modules.specs.declared.Moved.{Moved}
+use Rattle.modules.specs.Modules.{present, hasModule}
 use Rattle.devices.specs.declared.Device.{Device}
 use Rattle.devices.specs.declared.Device.the-variants.{Din, Rout, Unknown}
 use Rattle.laws.specs.Bits.{hasFlag, bitOf}
@@ -27,7 +29,7 @@ use Rattle.tables.specs.Time.{grown, usagePassed, passed}
 use Rattle.changes.specs.Answers.{onInput, onRelay}
 use Rattle.changes.specs.Levels.{hasLevel, levelOf}
 use Rattle.edits.specs.Edits.{raised, told, countWritten, inputWritten, relayFails}
-use Rattle.changes.specs.Commands.{blockedRow, blockOf}
+use Rattle.changes.specs.Commands.{onPresent, blockedRow, blockOf}
 use Rattle.changes.specs.Entries.{writeInput, writeRelay}
 use Rattle.orders.specs.declared.Entry.{Entry}
 use Rattle.orders.specs.Entries.{entryOf}
@@ -37,14 +39,15 @@ use Rattle.ring.specs.declared.Pulse.{Pulse}
 use Rattle.pulses.specs.Pulses.{shortRow}
 use Rattle.ring.specs.Ring.{pulseOf, relayPulse, isFull}
 use Rattle.pulses.proofs.Keeping.{Keeps, elapsed-keeps, accepted-keeps}
-use Rattle.marks.specs.Marks.{watches, markedRow, marked}
-use Rattle.plain.specs.Events.{leveled, timePassed, monitorSent}
-use Rattle.serving.specs.Obeying.{monitorSet, clockTold, pulsed, obeyed}
+use Rattle.marks.specs.Marks.{watches, markedRow, anyMoved, marked, externalCleared}
+use Rattle.plain.specs.Events.{leveled, timePassed, monitorsSent}
+use Rattle.serving.specs.Obeying.{monitorSet, clockTold, pulsed, pulsedRelay, obeyed}
 use Rattle.serving.specs.Serving.{servedContent, servedMessage}
 use Rattle.powerup.specs.declared.Settings.{Settings}
 use Rattle.powerup.specs.PowerUp.{poweredUp}
-use Rattle.register.specs.Box.{Event, level, pass, connect, close, collect, Tables, happens}
+use Rattle.register.specs.Box.{Event, level, pass, connect, close, collect, fill, empty, Tables, happens}
 use Rattle.register.specs.Laws.{CountsFit, InBytes}
+use Rattle.register.proofs.Filling.{Fills, filled-keeps, emptied-keeps}
 use Rattle.register.proofs.Cases.{frame-cases, connect-cases, close-cases, collect-cases}
 
 abbrev most : ℕ
@@ -75,9 +78,9 @@ written-small flags count was h k = go (hasFlag flags 2) (hasFlag flags 1)
     go false true = zero-le
     go false false = k
 
-mark-small : (row : List ℕ) → countIn row ≤ most → countIn (markedRow row) ≤ most
+mark-small : (due external : Bool) (row : List ℕ) → countIn row ≤ most → countIn (markedRow due external row) ≤ most
 unfolding markedRow
-mark-small row h = by-cases (watches (lineIn row)) (λ q. rw q h) (λ q. rw q h)
+mark-small due external row h = by-cases (watches (lineIn row)) (λ q. rw q h) (λ q. rw q h)
 
 block-small : (mask state k : ℕ) (row : List ℕ) → countIn row ≤ most → countIn (blockedRow mask state k row) ≤ most
 unfolding blockedRow
@@ -143,7 +146,7 @@ module _ (b : Board) (f : Fit b) where
 
   relay-fits : (k : ℕ) (r : Relay) → Fit (putRelay k r b)
   unfolding putRelay
-  relay-fits k r = by-cases (isChannel k) (λ q. rw q (behind-fits (relayPlace k) _ b (omega arith) f)) (λ q. rw q f)
+  relay-fits k r = by-cases (isRelay k) (λ q. rw q (behind-fits (relayPlace k) _ b (omega arith) f)) (λ q. rw q f)
 
   line-fits : (c : ℕ) (l : Line) → Fit (putLine c l b)
   unfolding putLine
@@ -159,9 +162,14 @@ module _ (b : Board) (f : Fit b) where
   unfolding onInput
   on-input g k h = by-cases (isChannel k) (λ q. rw q (input-fits k (g (inputAt k b)) (h (inputs-fit f .at k)))) (λ q. rw q f)
 
-  on-relay : (g : Relay → Relay) (k : ℕ) → Fit (onRelay g k b .board)
+  on-relay : (there : Bool) (g : Relay → Relay) (k : ℕ) → Fit (onRelay there g k b .board)
   unfolding onRelay
-  on-relay g k = by-cases (isChannel k) (λ q. rw q (relay-fits k (g (relayAt k b)))) (λ q. rw q f)
+  on-relay true g k = relay-fits k (g (relayAt k b))
+  on-relay false g k = f
+
+  on-present : (g : Relay → Relay) (k : ℕ) → Fit (onPresent g k b .board)
+  unfolding onPresent
+  on-present g k = on-relay (present k b) g k
 
   level-fits : (k v : ℕ) → Fit (levelOf k v b .board)
   unfolding levelOf told
@@ -179,14 +187,22 @@ module _ (b : Board) (f : Fit b) where
       (λ p. rw p f)
   device-fits (Rout k) e h =
       by-cases (relaySizeFits (e .size) (e .flags))
-      (λ p. rw p (by-cases (relayFails (e .flags) (e .state)) (λ q. rw q f) (λ q. rw q (on-relay _ k))))
+      (λ p. rw p (by-cases (relayFails (e .flags) (e .state)) (λ q. rw q f) (λ q. rw q (on-relay (isChannel k) _ k))))
       (λ p. rw p f)
   device-fits Unknown e h = f
 
-  marks-fit : (changed : Bool) → Fit (marked changed b)
+  marks-fit : (moved : Moved) → Fit (marked moved b)
   unfolding marked
-  marks-fit true = changes firstLine 4 (λ _. markedRow) b (λ k. mark-small) f
-  marks-fit false = f
+  marks-fit moved =
+      by-cases (anyMoved moved)
+      (λ t. rw t (changes firstLine 4 (λ _. markedRow (moved .inner) (hasModule b)) b (λ k. mark-small (moved .inner) (hasModule b)) f))
+      (λ n. rw n f)
+
+  cleared-fits : Fit (externalCleared b)
+  unfolding externalCleared
+  cleared-fits =
+      changes firstLine 4 (λ _ row. set row externalWord 0) b
+      (λ k row h. subst (λ (n : ℕ). n ≤ most) (sym (getD-set-other row externalWord 2 0 0 (λ e. omega arith))) h) f
 
 -- the entries of a WriteDevices message, whose counts have four bytes
 written-fits : (content : List ℕ) → Bytes content → (at n : ℕ) (w : Entered) → Fit (w .board) → Fit (writtenFrom content at n w .board)
@@ -202,12 +218,12 @@ written-fits content h at (suc n) w f =
 time-fits : (d : ℕ) (b : Board) → Fit b → Fit (passed d b)
 unfolding passed
 time-fits d b f =
-    let n : ℕ = clockRow - firstInput in
+    let n : ℕ = firstOuter - firstInput in
     clock-fits (onRows firstInput n (λ _. usagePassed d) b) (changes firstInput n (λ _. usagePassed d) b (λ k. usage-alone d) f) _
 
 block-fits : (mask states : ℕ) (b : Board) → Fit b → Fit (blockOf mask states b .board)
 unfolding blockOf
-block-fits mask states b f = changes firstRelay 8 (blockedRow mask states) b (λ k. block-small mask states k) f
+block-fits mask states b f = changes firstRelay 16 (blockedRow mask states) b (λ k. block-small mask states k) f
 
 pulses-fit : Keeps Fit
 pulses-fit =
@@ -222,14 +238,29 @@ pulsed-fits : (p : Pulse) (b : Board) → Fit b → Fit (pulsed p b .board)
 unfolding pulsed
 pulsed-fits p b f = by-cases (isFull (queueOf b)) (λ e. rw e f) (λ e. rw e (accepted-keeps pulses-fit p b f))
 
+places-fit : Fills Fit
+places-fit =
+    record {
+      change = block-fits;
+      place = λ n row b h. behind-fits n row b (omega (arith, h));
+      marks = λ moved b f. marks-fit b f moved;
+      clears = cleared-fits;
+    }
+
+relay-pulsed : (k ms : ℕ) (b : Board) → Fit b → Fit (pulsedRelay k ms b .board)
+unfolding pulsedRelay
+relay-pulsed k ms b f = by-cases (present k b) (λ t. rw t (pulsed-fits (relayPulse k ms) b f)) (λ n. rw n f)
+
 event-fits : (e : Event) (t : Tables) → Fit (t .board) → Fit (happens e t .board)
-unfolding leveled timePassed monitorSent
+unfolding leveled timePassed monitorsSent
 event-fits (level k v) t f = marks-fit (levelOf k v (t .board) .board) (level-fits (t .board) f k v) (levelOf k v (t .board) .changed)
 event-fits (pass d) t f =
     by-cases (shortRow (length (t .row))) (λ s. rw s f) (λ s. rw s (elapsed-keeps pulses-fit (t .row) d (t .board) f))
 event-fits (connect c rank strict) t f = connect-cases c (t .board) rank strict (λ d. Fit (d .board)) f f f (λ u. line-fits (t .board) f c _)
 event-fits (close c) t f = close-cases c (t .board) (λ d. Fit (d .board)) f (λ u. line-fits (t .board) f c shutLine)
 event-fits (collect c room) t f = collect-cases c (t .board) room (λ d. Fit (d .board)) f f f (λ v. line-fits (t .board) f c _)
+event-fits (fill place) t f = filled-keeps places-fit (length (t .row)) place (t .board) f
+event-fits (empty place) t f = emptied-keeps places-fit (length (t .row)) place (t .board) f
 
 obeyed-fits : (c : ℕ) (s : List ℕ) → Bytes s → (o : Order) (b : Board) → Fit b → Fit (obeyed c s o b .board)
 unfolding obeyed monitorSet clockTold
@@ -240,14 +271,14 @@ obeyed-fits c s h Usage b f = f
 obeyed-fits c s h MonitorOff b f = line-fits b f c _
 obeyed-fits c s h MonitorOn b f = line-fits b f c _
 obeyed-fits c s h (SetClock v) b f = clock-fits b f v
-obeyed-fits c s h (Close k) b f = marks-fit _ (on-relay b f _ k) _
-obeyed-fits c s h (Open k) b f = marks-fit _ (on-relay b f _ k) _
-obeyed-fits c s h (Toggle k) b f = marks-fit _ (on-relay b f _ k) _
+obeyed-fits c s h (Close k) b f = marks-fit _ (on-present b f _ k) _
+obeyed-fits c s h (Open k) b f = marks-fit _ (on-present b f _ k) _
+obeyed-fits c s h (Toggle k) b f = marks-fit _ (on-present b f _ k) _
 obeyed-fits c s h (ClearCount k) b f = marks-fit _ (on-input b f _ k (λ q. zero-le)) _
 obeyed-fits c s h (ClearInputUsage k) b f = marks-fit _ (on-input b f _ k (λ q. q)) _
-obeyed-fits c s h (ClearRelayUsage k) b f = marks-fit _ (on-relay b f _ k) _
+obeyed-fits c s h (ClearRelayUsage k) b f = marks-fit _ (on-relay b f (isChannel k) _ k) _
 obeyed-fits c s h (Block mask state) b f = marks-fit _ (block-fits mask state b f) _
-obeyed-fits c s h (PulseRelay k ms) b f = pulsed-fits (relayPulse k ms) b f
+obeyed-fits c s h (PulseRelay k ms) b f = relay-pulsed k ms b f
 obeyed-fits c s h (PulseBlock mask states ms) b f = pulsed-fits (pulseOf mask states ms) b f
 obeyed-fits c s h (Read n) b f = f
 obeyed-fits c s h (Write n) b f = marks-fit _ (written-fits s h 3 n (soFar b 0 false) f) _

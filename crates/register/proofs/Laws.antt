@@ -35,8 +35,10 @@ use Rattle.layouts.specs.declared.Reach.{Reach}
 use Rattle.layouts.specs.declared.Reach.the-variants.{To, Broken}
 use Rattle.judges.specs.Judges.{ofReach, ifSized, judgeSetClock}
 use Rattle.orders.specs.Orders.{setClockOf, orderOf}
-use Rattle.marks.specs.Marks.{withDue}
-use Rattle.plain.specs.Events.{leveled, timePassed, monitorSent, collected}
+use Rattle.marks.specs.Marks.{withMarks}
+use Rattle.plain.specs.Events.{leveled, timePassed, monitorsSent, collected}
+use Rattle.modules.specs.Modules.{isPlace, filled}
+use Rattle.filling.specs.Filling.{filledAt, emptiedAt, placeAnswer, onPlace, placeFilled, placeEmptied, losing, rowWithout}
 use Rattle.connections.specs.Lines.{connected, closed}
 use Rattle.answers.specs.Calls.{Did, did, refused, refusedAt}
 use Rattle.serving.specs.Obeying.{clockTold, obeyed}
@@ -45,10 +47,10 @@ use Rattle.halves.specs.Halves.{Halves}
 use Rattle.pieces.specs.Pieces.{answered, fed, bytesCall}
 use Rattle.board.specs.Calls.{passCall}
 use Rattle.demand.specs.Demand.{Call, bytes, other}
-use Rattle.register.specs.Box.{Event, level, pass, connect, close, collect, Tables, happens, on, whose, served, beforeBytes, Held, held, tablesOf, effectOf, halvesOf, boxCall}
+use Rattle.register.specs.Box.{Event, level, pass, connect, close, collect, fill, empty, Tables, happens, rowLeft, on, whose, served, beforeBytes, Held, held, tablesOf, effectOf, halvesOf, boxCall}
 use Rattle.register.specs.Laws.{TypeSeven, ButClock, Untouched, Placed, isOf, callOn, Kept}
-use Rattle.register.proofs.Cases.{frame-cases, bytes-cases, connect-cases, close-cases, collect-cases}
-use Rattle.register.proofs.Touching.{level-event, pass-event, collect-touches}
+use Rattle.register.proofs.Cases.{frame-cases, bytes-cases, connect-cases, close-cases, collect-cases, place-cases}
+use Rattle.register.proofs.Touching.{level-event, pass-event, fill-event, empty-event, collect-touches}
 use Rattle.register.proofs.Numbers.{Judged, serves, refuses, unplaced, level-judged, message-judged, judged-answers, judged-placed}
 use Rattle.register.proofs.BoxCalls.{row-same, bytes-touches, bytes-half-apart, bytes-room-apart, left-apart, left-refused, connect-apart, close-apart}
 
@@ -126,7 +128,7 @@ module _ (p : Board) where
   close-so c = close-cases c p (RefusedSo p) (λ h. refl) (λ u h. absurd (omega arith))
 
   collect-so : (c room : ℕ) → RefusedSo p (collected c room p)
-  unfolding monitorSent
+  unfolding monitorsSent
   collect-so c room = collect-cases c p room (RefusedSo p) (λ h. refl) (λ h. refl) (λ h. absurd (omega arith)) (λ v h. absurd (omega arith))
 
   answered-so : (c : ℕ) (o : Option Got) → RefusedSo p (answered c o p)
@@ -141,12 +143,19 @@ pass-so d row p = go (shortRow (length row))
     go true = λ h. refl
     go false = λ h. absurd (omega arith)
 
+-- a place that is filled or emptied
+place-so : (f : ℕ → Board → Board) (records place : ℕ) (p : Board) → RefusedSo p (onPlace f records place p)
+place-so f records place p = place-cases f records place p (RefusedSo p) (λ h. refl) (λ h. refl) (λ h. absurd (omega arith))
+
 event-so : (e : Event) (t : Tables) → RefusedSo (t .board) (happens e t)
+unfolding placeFilled placeEmptied
 event-so (level k v) t = judged-so (t .board) (leveled k v (t .board)) (level-judged (t .board) k v)
 event-so (pass d) t = pass-so d (t .row) (t .board)
 event-so (connect c rank strict) t = connect-so (t .board) c rank strict
 event-so (close c) t = close-so (t .board) c
 event-so (collect c room) t = collect-so (t .board) c room
+event-so (fill place) t = place-so filledAt (length (t .row)) place (t .board)
+event-so (empty place) t = place-so emptiedAt (length (t .row)) place (t .board)
 
 bytes-so : (c room records : ℕ) (piece : List ℕ) (b : Board) (hs : Halves) (rooms : List ℕ) → RefusedSo b (bytesCall c piece room records b hs rooms .did)
 bytes-so c room records piece b hs rooms =
@@ -173,7 +182,7 @@ module _ (p : Board) where
   close-placed c = close-cases c p Placed (unplaced refl refl) (λ u. unplaced refl refl)
 
   collect-placed : (c room : ℕ) → Placed (collected c room p)
-  unfolding monitorSent
+  unfolding monitorsSent
   collect-placed c room =
       collect-cases c p room Placed (unplaced refl refl) (unplaced refl refl) (unplaced refl refl) (λ v. unplaced refl refl)
 
@@ -185,12 +194,18 @@ pass-placed : (d : ℕ) (row : List Pulse) (p : Board) → Placed (timePassed d 
 unfolding timePassed
 pass-placed d row p = by-cases (shortRow (length row)) (λ e. rw e (unplaced refl refl)) (λ e. rw e (unplaced refl refl))
 
+place-placed : (f : ℕ → Board → Board) (records place : ℕ) (p : Board) → Placed (onPlace f records place p)
+place-placed f records place p = place-cases f records place p Placed (unplaced refl refl) (unplaced refl refl) (unplaced refl refl)
+
 event-placed : (e : Event) (t : Tables) → Placed (happens e t)
+unfolding placeFilled placeEmptied
 event-placed (level k v) t = judged-placed (t .board) (leveled k v (t .board)) (level-judged (t .board) k v)
 event-placed (pass d) t = pass-placed d (t .row) (t .board)
 event-placed (connect c rank strict) t = connect-placed (t .board) c rank strict
 event-placed (close c) t = close-placed (t .board) c
 event-placed (collect c room) t = collect-placed (t .board) c room
+event-placed (fill place) t = place-placed filledAt (length (t .row)) place (t .board)
+event-placed (empty place) t = place-placed emptiedAt (length (t .row)) place (t .board)
 
 pub placed-calls : (x : Held) (k : Call served) → Placed (effectOf x k .did)
 placed-calls x (bytes c room piece) =
@@ -201,11 +216,34 @@ placed-calls x (bytes c room piece) =
     ρ = fed c piece (x .halves) (x .rooms)
 placed-calls x (other e) = event-placed e (tablesOf x)
 
--- REFUSED WHOLE. A refused event drops no half-read message either
+-- REFUSED WHOLE. A refused event leaves the row too: an emptying that is refused takes no relay from any mask
+lost-none : (records place : ℕ) (b : Board) → 3 ≤ placeAnswer records place → losing records place b ≡ 0
+unfolding losing filled
+lost-none records place b h =
+    by-cases (shortRow records)
+    (λ s. rw s)
+    (λ s. by-cases (isPlace place)
+    (λ q. absurd (not-three (rw (s, q) at h)))
+    (λ q. rw (s, q)))
+  where
+    not-three : 3 ≤ 1 → ⊥
+    not-three h = omega arith
+
+row-refused : (e : Event) (t : Tables) → 3 ≤ happens e t .answer → rowLeft e t ≡ t .row
+unfolding placeEmptied rowWithout
+row-refused (level k v) t h = refl
+row-refused (pass d) t h = refl
+row-refused (connect c rank strict) t h = refl
+row-refused (close c) t h = refl
+row-refused (collect c room) t h = refl
+row-refused (fill place) t h = refl
+row-refused (empty place) t h = rw (lost-none (length (t .row)) place (t .board) h)
+
+-- and drops no half-read message either
 pub refused-event : (x : Held) (e : Event) → 3 ≤ effectOf x (other e) .did .answer → boxCall x (other e) .0 ≡ x
 refused-event x e h =
     let stay : halvesOf x (other e) ≡ x .halves = left-refused (on e) (happens e (tablesOf x) .answer) (x .halves) h in
-    λ i. held (refused-untouched x (other e) h .board i) (stay i) (x .rooms) (x .row)
+    λ i. held (refused-untouched x (other e) h .board i) (stay i) (x .rooms) (row-refused e (tablesOf x) h i)
 
 -- a message's number, or that nothing ended, is neither 3 nor 4
 not-refused : (p : Board) (c : ℕ) (o : Option Got) → beforeBytes (answered c o p .answer) ≡ false
@@ -235,9 +273,11 @@ others-kept x (other e) d n =
     record { half = left-apart (on e) d (happens e (tablesOf x) .answer) (x .halves) n; room = refl; line = line-of e n }
   where
     line-of : (e : Event) → isOf d (whose (on e)) ≡ false
-        → withDue false (lineAt d (happens e (tablesOf x) .board)) ≡ withDue false (lineAt d (x .board))
+        → withMarks false false (lineAt d (happens e (tablesOf x) .board)) ≡ withMarks false false (lineAt d (x .board))
     line-of (level k v) n = level-event k v (x .board) .at d
     line-of (pass m) n = pass-event m (x .row) (x .board) .at d
-    line-of (connect c rank strict) n = ap (withDue false) (connect-apart c rank strict (x .board) d n)
-    line-of (close c) n = ap (withDue false) (close-apart c (x .board) d n)
+    line-of (connect c rank strict) n = ap (withMarks false false) (connect-apart c rank strict (x .board) d n)
+    line-of (close c) n = ap (withMarks false false) (close-apart c (x .board) d n)
     line-of (collect c room) n = collect-touches c room (x .board) .others d n
+    line-of (fill place) n = fill-event (length (x .row)) place (x .board) .at d
+    line-of (empty place) n = empty-event (length (x .row)) place (x .board) .at d

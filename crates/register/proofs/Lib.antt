@@ -3,6 +3,7 @@ pub mod Moving
 pub mod Touching
 pub mod Numbers
 pub mod Queue
+pub mod Filling
 pub mod Halves
 pub mod BoxCalls
 pub mod BoxLawful

@@ -1,8 +1,8 @@
 -- 01, Frame: the longest reply has 3,437 bytes.
---     frame-reply        no reply to a content that is judged has more
+--     frame-reply        no reply to a content that is judged has more, the two frames of request 1 neither (02, M-102, 7)
 --     longest-reached    at every board, whoever may read is sent so many when he asks for an input's ID as often as a content can hold it
-use mathlib.Core.Path.{_≡_, refl}
-use mathlib.Core.List.{List, [], _∷_, map}
+use mathlib.Core.Path.{_≡_, refl, ap, _∙_}
+use mathlib.Core.List.{List, [], _∷_, _++_, map, append-nil}
 use Prim.Native.Nat.{ℕ, zero, suc, _+_, _*_, _≤_}
 use native.Mathlib.Nat.{mul-suc}
 use native.Mathlib.Omega.{arith}
@@ -16,16 +16,22 @@ use Rattle.steps.specs.Cut.{frame}
 use Rattle.frames.proofs.Sealing.{true-sum}
 use Rattle.rows.specs.Places.{Board, lineAt}
 use Rattle.devices.specs.Devices.{deviceOf}
+use Rattle.modules.specs.Modules.{hasModule}
+use Rattle.judges.specs.declared.Order.{Order}
 use Rattle.judges.specs.declared.Order.the-variants.{Read}
 use Rattle.layouts.specs.Layouts.{onward, finished}
 use Rattle.judges.specs.Judges.{ofReach, ifListed, judgeRead}
 use Rattle.orders.specs.Orders.{readOf, orderOf}
-use Rattle.readings.specs.Readings.{inputBlock, blockOf, entryOf, idsIn, devicesReply}
+use Rattle.readings.specs.Readings.{inputBlock, blockOf, entryOf, idsIn, devicesReply, monitorReply, externalReply}
+use Rattle.readings.proofs.Lengths.{length-monitor}
 use Rattle.connections.specs.Lines.{isStrict}
-use Rattle.answers.specs.Calls.{framed}
-use Rattle.serving.specs.Obeying.{obeyed}
+use Rattle.answers.specs.Calls.{framed, framesOf}
+use Rattle.plain.specs.Events.{ifWanted}
+use Rattle.plain.proofs.Frames.{external-few, no-bytes}
+use Rattle.serving.specs.Obeying.{obeyed, followsIt}
 use Rattle.serving.specs.Serving.{servedContent, servedMessage}
 use Rattle.serving.proofs.Lengths.{reply-short}
+use Rattle.serving.proofs.Following.{monitor-or}
 use Rattle.register.proofs.Cases.{frame-cases}
 
 -- a frame has five bytes more than its content
@@ -33,12 +39,34 @@ pub framed-length : (xs : List ℕ) → length (framed xs) ≤ length xs + 5
 framed-length [] = omega arith
 framed-length (x ∷ xs) = omega arith
 
+-- 02, M-102, 7: of two messages one behind the other, the Monitor message and the External one, the frames have 102 and 24 bytes at most
+followed-length : (c : ℕ) (s : List ℕ) (p : Board) → length s ≤ 1024 → (order : Order)
+    → length (framed (obeyed c s order p .reply) ++ framesOf (ifWanted (followsIt order (hasModule p)) (externalReply p))) ≤ 3437
+unfolding obeyed followsIt
+followed-length c s p h =
+    monitor-or (λ order. length (framed (obeyed c s order p .reply) ++ framesOf (ifWanted (followsIt order (hasModule p)) (externalReply p))) ≤ 3437)
+    (omega (
+      arith,
+      length-append (framed (monitorReply p)) (framesOf (ifWanted (hasModule p) (externalReply p))),
+      framed-length (monitorReply p),
+      length-monitor p,
+      external-few (hasModule p) p,
+    ))
+    (λ order none. rw (none (hasModule p)) (omega (
+      arith,
+      length-append (framed (obeyed c s order p .reply)) (framesOf []),
+      no-frames,
+      framed-length (obeyed c s order p .reply),
+      reply-short c s order p h,
+    )))
+  where
+    no-frames : length (framesOf []) ≡ 0
+    no-frames = no-bytes
+
 pub frame-reply : (c : ℕ) (p : Board) (sum : ℕ) (s : List ℕ) → length s ≤ 1024 → length (servedMessage c (frame sum s) p .reply) ≤ 3437
 unfolding servedContent
 frame-reply c p sum s h =
-    frame-cases c sum s p (λ d. length (d .reply) ≤ 3437)
-    (omega (arith, framed-length (obeyed c s (orderOf s (lineAt c p .rank)) p .reply), reply-short c s (orderOf s (lineAt c p .rank)) p h))
-    (omega arith)
+    frame-cases c sum s p (λ d. length (d .reply) ≤ 3437) (followed-length c s p h (orderOf s (lineAt c p .rank))) (omega arith)
 
 -- input 1's ID, n times
 unfoldable asked : ℕ → List ℕ
@@ -76,5 +104,9 @@ asks rank h = rw (length-asked 127, le-ltb rank 1 h)
 
 pub longest-reached : (c : ℕ) (p : Board) → 1 ≤ lineAt c p .rank
     → (s : List ℕ) × (length s ≡ 3 + 8 * 127) × (length (servedMessage c (frame (crcOf s) s) p .reply) ≡ 3437)
-unfolding servedMessage servedContent obeyed
-longest-reached c p h = (asking, rw (length-asked 127), rw (true-sum asking (isStrict c p), asks (lineAt c p .rank) h) (length-frame p))
+unfolding servedMessage servedContent obeyed followsIt framesOf
+longest-reached c p h = (
+  asking,
+  rw (length-asked 127),
+  rw (true-sum asking (isStrict c p), asks (lineAt c p .rank) h) (ap length (append-nil (framed (devicesReply (asked 127) p))) ∙ length-frame p),
+)

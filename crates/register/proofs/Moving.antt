@@ -1,7 +1,8 @@
 -- What changes of inputs, relays and the clock leave, for every relation of boards that a store before the connections' rows keeps.
 --     Leaves    such a relation
---     on-input, on-relay, level-stays, written-stays, passed-stays, block-stays, clock-stays
+--     on-input, on-relay, on-present, level-stays, written-stays, passed-stays, block-stays, clock-stays
 use mathlib.Core.Path.{refl}
+use mathlib.Core.Bool.{Bool, true, false}
 use mathlib.Core.List.{List}
 use Prim.Native.Nat.{ℕ, zero, suc, _+_, _-_, _≤_, _<_}
 use native.Mathlib.Omega.{arith}
@@ -10,15 +11,16 @@ use lib.ListN.{set}
 use Rattle.laws.proofs.Tests.{by-cases}
 use Rattle.rows.specs.declared.Input.{Input}
 use Rattle.rows.specs.declared.Relay.{Relay}
-use Rattle.rows.specs.Places.{Board, isChannel, inputAt, relayAt, putInput, putRelay, clockSet, onRows, inputPlace, relayPlace, firstInput, firstRelay, firstLine, clockRow}
-use Rattle.rows.proofs.Channel.{in-range}
+use Rattle.rows.specs.Places.{Board, isChannel, isRelay, inputAt, relayAt, putInput, putRelay, clockSet, onRows, inputPlace, relayPlace, firstInput, firstRelay, firstOuter, firstLine, clockRow}
+use Rattle.rows.proofs.Channel.{in-range, relay-range}
 use Rattle.devices.specs.declared.Device.{Device}
 use Rattle.devices.specs.declared.Device.the-variants.{Din, Rout, Unknown}
 use Rattle.devices.specs.Devices.{deviceOf}
+use Rattle.modules.specs.Modules.{present}
 use Rattle.tables.specs.Time.{usagePassed, passed}
 use Rattle.changes.specs.Answers.{onInput, onRelay}
 use Rattle.changes.specs.Levels.{hasLevel, levelOf}
-use Rattle.changes.specs.Commands.{blockedRow, blockOf}
+use Rattle.changes.specs.Commands.{onPresent, blockedRow, blockOf}
 use Rattle.changes.specs.Entries.{writeInput, writeRelay}
 use Rattle.edits.specs.Edits.{relayFails}
 use Rattle.orders.specs.declared.Entry.{Entry}
@@ -38,7 +40,7 @@ module _ {G : Board → Board → Type 0} (g : Leaves G) where
 
   relay-stays : (k : ℕ) (r : Relay) (b : Board) → G b (putRelay k r b)
   unfolding putRelay
-  relay-stays k r b = by-cases (isChannel k) (λ h. rw h (g .store (relayPlace k) b _ (omega (arith, in-range k refl h)))) (λ h. rw h (g .same b))
+  relay-stays k r b = by-cases (isRelay k) (λ h. rw h (g .store (relayPlace k) b _ (omega (arith, relay-range k refl h)))) (λ h. rw h (g .same b))
 
   pub clock-stays : (v : ℕ) (b : Board) → G b (clockSet v b)
   unfolding clockSet
@@ -47,20 +49,25 @@ module _ {G : Board → Board → Type 0} (g : Leaves G) where
   pub passed-stays : (d : ℕ) (b : Board) → G b (passed d b)
   unfolding passed
   passed-stays d b =
-      let n : ℕ = clockRow - firstInput in
+      let n : ℕ = firstOuter - firstInput in
       g .then (g .change firstInput n (λ _. usagePassed d) b (omega arith)) (clock-stays _ (onRows firstInput n (λ _. usagePassed d) b))
 
   pub block-stays : (mask states : ℕ) (b : Board) → G b (blockOf mask states b .board)
   unfolding blockOf
-  block-stays mask states b = g .change firstRelay 8 (blockedRow mask states) b (omega arith)
+  block-stays mask states b = g .change firstRelay 16 (blockedRow mask states) b (omega arith)
 
   pub on-input : (f : Input → Input) (k : ℕ) (b : Board) → G b (onInput f k b .board)
   unfolding onInput
   on-input f k b = by-cases (isChannel k) (λ h. rw h (input-stays k (f (inputAt k b)) b)) (λ h. rw h (g .same b))
 
-  pub on-relay : (f : Relay → Relay) (k : ℕ) (b : Board) → G b (onRelay f k b .board)
+  pub on-relay : (there : Bool) (f : Relay → Relay) (k : ℕ) (b : Board) → G b (onRelay there f k b .board)
   unfolding onRelay
-  on-relay f k b = by-cases (isChannel k) (λ h. rw h (relay-stays k (f (relayAt k b)) b)) (λ h. rw h (g .same b))
+  on-relay true f k b = relay-stays k (f (relayAt k b)) b
+  on-relay false f k b = g .same b
+
+  pub on-present : (f : Relay → Relay) (k : ℕ) (b : Board) → G b (onPresent f k b .board)
+  unfolding onPresent
+  on-present f k b = on-relay (present k b) f k b
 
   pub level-stays : (k v : ℕ) (b : Board) → G b (levelOf k v b .board)
   unfolding levelOf
@@ -76,7 +83,7 @@ module _ {G : Board → Board → Type 0} (g : Leaves G) where
       (λ h. rw h (g .same b))
   device-stays (Rout k) e b =
       by-cases (relaySizeFits (e .size) (e .flags))
-      (λ h. rw h (by-cases (relayFails (e .flags) (e .state)) (λ q. rw q (g .same b)) (λ q. rw q (on-relay _ k b))))
+      (λ h. rw h (by-cases (relayFails (e .flags) (e .state)) (λ q. rw q (g .same b)) (λ q. rw q (on-relay (isChannel k) _ k b))))
       (λ h. rw h (g .same b))
   device-stays Unknown e b = g .same b
 

@@ -19,14 +19,15 @@ use Rattle.rows.specs.declared.Line.{Line}
 use Rattle.rows.specs.Rows.{isOn, lineIn, lineWords, shutLine}
 use Rattle.rows.specs.Places.{Board, isConnection, rowAt, lineAt, putLine, linePlace}
 use Rattle.rows.proofs.Views.{line-again}
+use Rattle.modules.specs.Modules.{hasModule}
 use Rattle.connections.specs.Lines.{openedLine, isOpen, isStrict, connected}
 use Rattle.answers.specs.Calls.{refused}
 use Rattle.serving.specs.Serving.{servedContent, servedMessage}
 use Rattle.pieces.specs.Pieces.{fed}
 use Rattle.demand.specs.Demand.{Call, bytes, other}
-use Rattle.register.specs.Box.{Event, level, pass, connect, close, collect, refusalOf, served, Held, tablesOf, effectOf, boxCall}
+use Rattle.register.specs.Box.{Event, level, pass, connect, close, collect, fill, empty, refusalOf, served, Held, tablesOf, effectOf, boxCall}
 use Rattle.register.proofs.Cases.{connect-cases}
-use Rattle.register.proofs.Touching.{as-strict, unmarked-settled, level-event, pass-event, collect-touches}
+use Rattle.register.proofs.Touching.{fill-event, empty-event, as-strict, unmarked-settled, level-event, pass-event, collect-touches}
 use Rattle.register.proofs.BoxCalls.{feeds-effect, bytes-touches, connect-apart, close-apart, close-shuts}
 
 abbrev strictLine : Line → Bool
@@ -73,7 +74,7 @@ pub strictness-opened : (x : Held) (c rank strict : ℕ) → isOpen c (x .board)
 unfolding openedLine
 strictness-opened x c rank strict shut =
     connect-cases c b rank strict (λ d. isOpen c (d .board) ≡ true → isStrict c (d .board) ≡ isOn strict) none-opened none-opened none-opened
-    (λ u opens. ap strictLine (line-stored c (openedLine rank strict) b shut opens))
+    (λ u opens. ap strictLine (line-stored c (openedLine rank strict (hasModule b)) b shut opens))
   where
     b : Board
     b = x .board
@@ -99,6 +100,8 @@ event-keeps x (close d) c u w =
     (λ same. absurd (true≢false (sym (rw (eqb-true c d same) at w) ∙ close-shuts d (x .board))))
     (λ apart. ap strictLine (close-apart d (x .board) c apart))
 event-keeps x (collect d room) c u w = as-strict (collect-touches d room (x .board) .as-opened) c
+event-keeps x (fill place) c u w = as-strict (unmarked-settled (fill-event (length (x .row)) place (x .board))) c
+event-keeps x (empty place) c u w = as-strict (unmarked-settled (empty-event (length (x .row)) place (x .board))) c
 
 pub strictness-kept : (x : Held) (k : Call served) (c : ℕ) → isOpen c (x .board) ≡ true → isOpen c (boxCall x k .0 .board) ≡ true
     → isStrict c (boxCall x k .0 .board) ≡ isStrict c (x .board)

@@ -1,5 +1,5 @@
 -- The box as demand 3 sees it: its plain machine, and its calls. Each call is made of the definitions that the entry point's contract cites.
--- An event is a clause in each of three lists: `Event`, `happens` and `on`.
+-- An event is a clause in each of four lists: `Event`, `happens`, `rowLeft` and `on`.
 use Rattle.numbers.specs.Numbers as numbers
 use mathlib.Core.Bool.{Bool, cond, _||_}
 use mathlib.Core.List.{List, []}
@@ -9,6 +9,7 @@ use lib.Dec.{eqb}
 use lib.ListN.{length, take}
 use Rattle.connections.specs.Lines.{isOpen, connected, closed}
 use Rattle.plain.specs.Events.{tooShort, leveled, timePassed, collected}
+use Rattle.filling.specs.Filling.{placeFilled, placeEmptied, rowEmptied}
 use Rattle.answers.specs.Calls.{Did}
 use Rattle.serving.specs.Serving.{servedMessage}
 use Rattle.rows.specs.Places.{Board}
@@ -25,12 +26,15 @@ use Rattle.demand.specs.Plain.{Serving}
 use Rattle.demand.specs.Demand.{Said, waits, refused, did, Call, bytes, other, Answer, answer, Machine, Trace, View, final, trace, begins}
 
 -- 01, Events, 1 to 5; an opening says the rank and, by 02, M-103, 2, the strictness; a collection lends a reply buffer of so many bytes
+-- 02, M-102, 11: a place of the second deck is filled, or emptied
 pub data Event : Type 0 where
   level : ℕ → ℕ → Event
   pass : ℕ → Event
   connect : ℕ → ℕ → ℕ → Event
   close : ℕ → Event
   collect : ℕ → ℕ → Event
+  fill : ℕ → Event
+  empty : ℕ → Event
 
 -- an answer number, its place (02, M-105, 2), and the bytes of the reply
 pub record Reply : Type 0 where
@@ -69,6 +73,18 @@ happens (pass d) t = timePassed d (t .row) (t .board)
 happens (connect c rank strict) t = connected c rank strict (t .board)
 happens (close c) t = closed c (t .board)
 happens (collect c room) t = collected c room (t .board)
+happens (fill place) t = placeFilled (length (t .row)) place (t .board)
+happens (empty place) t = placeEmptied (length (t .row)) place (t .board)
+
+-- the row after it; 02, M-102, 8: only an emptying changes it
+abbrev pub rowLeft : Event → Tables → List Pulse
+rowLeft (level k v) t = t .row
+rowLeft (pass d) t = t .row
+rowLeft (connect c rank strict) t = t .row
+rowLeft (close c) t = t .row
+rowLeft (collect c room) t = t .row
+rowLeft (fill place) t = t .row
+rowLeft (empty place) t = rowEmptied place (t .board) (t .row)
 
 -- the connection that an event is on, if it is on one: where it succeeds it drops what that one has half read, or keeps it
 pub data On : Type 0 where
@@ -83,6 +99,8 @@ on (pass d) = nobody
 on (connect c rank strict) = dropping c
 on (close c) = dropping c
 on (collect c room) = keeping c
+on (fill place) = nobody
+on (empty place) = nobody
 
 -- the connection itself
 abbrev pub whose : On → Option ℕ
@@ -96,12 +114,12 @@ replyFor nobody = none
 replyFor (dropping c) = none
 replyFor (keeping c) = some c
 
--- what a message or an event leaves of the tables: only a message adds a record to the row
+-- what a message or an event leaves of the tables: a message may add a record to the row
 abbrev pub tablesAfter : Tables → Did → Tables
 tablesAfter t d = tables (d .board) (rowAfter (t .board) (d .board) (t .row))
 
-abbrev pub boardAfter : Tables → Did → Tables
-boardAfter t d = tables (d .board) (t .row)
+abbrev pub tablesHappened : Tables → Event → Tables
+tablesHappened t e = tables (happens e t .board) (rowLeft e t)
 
 -- THE PLAIN MACHINE of the box: its tables are the lent board and row, all of them, and it serves whole messages by demand 2
 abbrev pub served : Serving
@@ -115,7 +133,7 @@ served =
       isOpen = λ t c. isOpen c (t .board);
       refusal = refusalOf;
       serve = λ t c g. (tablesAfter t (servedMessage c g (t .board)), replyOf (servedMessage c g (t .board)));
-      happen = λ t e. (boardAfter t (happens e t), replyOf (happens e t));
+      happen = λ t e. (tablesHappened t e, replyOf (happens e t));
       replyTo = λ e. replyFor (on e);
     }
 
@@ -162,10 +180,10 @@ abbrev pub roomsOf : Held → Call served → List ℕ
 roomsOf x (bytes c room piece) = roomsAfter c piece room (length (x .row)) (x .board) (x .halves) (x .rooms)
 roomsOf x (other e) = x .rooms
 
--- the row of pulses after it: only a message adds to it; time reads it
+-- the row of pulses after it: a message adds to it, an emptying takes relays from its masks; time reads it
 abbrev pub rowOf : Held → Call served → List Pulse
 rowOf x (bytes c room piece) = rowAfter (x .board) (effectOf x (bytes c room piece) .did .board) (x .row)
-rowOf x (other e) = x .row
+rowOf x (other e) = rowLeft e (tablesOf x)
 
 -- every event is answered, refused or not
 abbrev pub saidOf : Call served → Reply → Said Reply

@@ -18,7 +18,7 @@ use Rattle.answers.specs.Calls.{Did}
 use Rattle.pieces.specs.Effects.{Effect}
 use Rattle.demand.specs.Demand.{Call, bytes, other}
 use Rattle.register.specs.Box.{on, whose, Held, served}
-use Rattle.marks.specs.Marks.{withDue}
+use Rattle.marks.specs.Marks.{withMarks}
 
 -- 01, Messages, 7, 1: a content of this type, whole or not
 abbrev pub TypeSeven : List ℕ → Type 0
@@ -53,11 +53,11 @@ abbrev pub callOn : ℕ → Call served → Bool
 callOn d (bytes c room piece) = eqb d c
 callOn d (other e) = isOf d (whose (on e))
 
--- 01, Mistakes, 1: connection d has what it had: its half-read message, its room, and its line but for the due mark
+-- 01, Mistakes, 1: connection d has what it had: its half-read message, its room, and its line but for its marks
 pub record Kept (d : ℕ) (before after : Held) : Type 0 where
   pub half : halfAt d (after .halves) ≡ halfAt d (before .halves)
   pub room : roomAt d (after .rooms) ≡ roomAt d (before .rooms)
-  pub line : withDue false (lineAt d (after .board)) ≡ withDue false (lineAt d (before .board))
+  pub line : withMarks false false (lineAt d (after .board)) ≡ withMarks false false (lineAt d (before .board))
 
 -- 01, What the box holds, 1: no input's count is above 4294967295
 pub record CountsFit (b : Board) : Type 0 where
