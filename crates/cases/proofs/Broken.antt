@@ -1,6 +1,9 @@
 -- The contents that do not have their layout are answered as 02, M-105, owes, all of them: the table is computed.
 use mathlib.Core.Path.{_≡_, refl}
 use mathlib.Core.List.{map}
+use Rattle.changes.specs.Commands.{onPresent}
+use Rattle.answers.specs.Calls.{framesOf}
+use Rattle.modules.specs.Modules.{filled, movedAt, present}
 use Rattle.laws.specs.Put.{put, rows}
 use Rattle.words.specs.Words.{fits, numberAt}
 use Rattle.steps.specs.Steps.{stepOf, firstOf, afterOf}
@@ -15,7 +18,7 @@ use Rattle.orders.specs.Orders.{requestOf, setClockOf, enumerateOf, commandOf, 
 use Rattle.readings.specs.Readings as readings
 use Rattle.connections.specs.Lines.{openedLine, connected}
 use Rattle.marks.specs.Marks.{marked}
-use Rattle.serving.specs.Obeying.{obeyed}
+use Rattle.serving.specs.Obeying.{obeyed, followsIt}
 use Rattle.serving.specs.Serving.{servedContent, servedMessage}
 use Rattle.ring.specs.Ring.{rowAfter}
 use Rattle.powerup.specs.PowerUp.{poweredUp}
@@ -29,13 +32,13 @@ field-layouts : Holds fieldCases
 unfolding fieldCases relayAt putRelay onRelay onward optionally finished ofReach inRange ifSized sizedRequest requestKnown judgeRequest judgeSetClock
     onChannel ifLasting judgePulse actionKnown judgeCommand judgeEnumerate requestOf setClockOf commandOf enumerateOf put fits numberAt stepOf firstOf
     afterOf roomOf runOf lineAt putLine onRows orderOf openedLine marked connected obeyed servedContent servedMessage poweredUp halfAt putHalf
-    bytesCall halvesAfter roomsAfter rowAfter queueOf
+    bytesCall halvesAfter roomsAfter rowAfter queueOf followsIt framesOf filled onPresent present movedAt
 field-layouts = record { rows = refl }
 
 list-layouts : Holds listCases
 unfolding listCases entriesLength onward finished ofReach ifListed judgeRead judgeWrite readOf writeOf put fits numberAt stepOf firstOf afterOf roomOf
     runOf lineAt putLine onRows orderOf openedLine marked connected obeyed servedContent servedMessage poweredUp halfAt putHalf bytesCall halvesAfter
-    roomsAfter rowAfter queueOf
+    roomsAfter rowAfter queueOf followsIt framesOf filled
 list-layouts = record { rows = refl }
 
 pub broken : map (λ (r : Row). r .does) brokenCases ≡ map (λ (r : Row). r .owes) brokenCases

@@ -17,6 +17,9 @@ use mathlib.Core.Option.{none}
 use Prim.Native.Nat.{ℕ}
 use native.Mathlib.Omega.{arith}
 use lib.ListN.{length, getD}
+use Rattle.changes.specs.Commands.{onPresent}
+use Rattle.answers.specs.Calls.{framesOf}
+use Rattle.modules.specs.Modules.{filled, movedAt, present}
 use Rattle.words.specs.Words.{fits, numberAt}
 use Rattle.steps.specs.Cut.{need, whole, cuts, messages, seen}
 use Rattle.changes.specs.Answers.{onRelay}
@@ -27,7 +30,7 @@ use Rattle.rows.specs.Places.{relayAt, lineAt, putRelay, putLine, onRows, Board
 use Rattle.ring.specs.declared.Pulse.{Pulse}
 use Rattle.connections.specs.Lines.{openedLine, isStrict, connected}
 use Rattle.marks.specs.Marks.{markedRow, marked}
-use Rattle.serving.specs.Obeying.{obeyed}
+use Rattle.serving.specs.Obeying.{obeyed, followsIt}
 use Rattle.serving.specs.Serving.{servedContent, servedMessage}
 use Rattle.powerup.specs.declared.Settings.{Settings}
 use Rattle.halves.specs.Halves.{Halves}
@@ -45,12 +48,12 @@ use Rattle.cases.specs.Starred.{settings}
 use Rattle.cases.specs.Empty.{shown, poweredTables, opened, RefusesAll, SameNumber, SameBytes}
 use Rattle.register.proofs.BoxDemand.{box-steady, box-demand-3, box-determined}
 
--- THREE FRAMES: a toggle of relay 1, one of relay 9, which there is not, and a request for the clock
+-- THREE FRAMES: a toggle of relay 1, one of relay 17, which there never is, and a request for the clock
 abbrev toggle : List ℕ
 toggle = 0x01 ∷ 0x00 ∷ 0x04 ∷ 0xFF ∷ 0xFF ∷ 0x0A ∷ 0x03 ∷ 0x00 ∷ 0x01 ∷ []
 
-abbrev toggleNine : List ℕ
-toggleNine = 0x01 ∷ 0x00 ∷ 0x04 ∷ 0xFF ∷ 0xFF ∷ 0x0A ∷ 0x03 ∷ 0x00 ∷ 0x09 ∷ []
+abbrev toggleNone : List ℕ
+toggleNone = 0x01 ∷ 0x00 ∷ 0x04 ∷ 0xFF ∷ 0xFF ∷ 0x0A ∷ 0x03 ∷ 0x00 ∷ 0x11 ∷ []
 
 abbrev askClock : List ℕ
 askClock = 0x01 ∷ 0x00 ∷ 0x03 ∷ 0xFF ∷ 0xFF ∷ 0x05 ∷ 0x00 ∷ 0x00 ∷ []
@@ -59,9 +62,9 @@ toggle-frame : OneFrame toggle
 unfolding messages cuts whole need
 toggle-frame = record { begun = refl; whole = refl }
 
-nine-frame : OneFrame toggleNine
+none-frame : OneFrame toggleNone
 unfolding messages cuts whole need
-nine-frame = record { begun = refl; whole = refl }
+none-frame = record { begun = refl; whole = refl }
 
 clock-frame : OneFrame askClock
 unfolding messages cuts whole need
@@ -71,30 +74,30 @@ clock-frame = record { begun = refl; whole = refl }
 module _ (p : Board) (h : lineAt 0 p .rank ≡ 2) (n : isStrict 0 p ≡ false) where
   toggle-reply : replyOf (servedMessage 0 (seen 1024 toggle) p) ≡ record { number = 1; place = 0; sent = [] }
   unfolding seen servedMessage servedContent orderOf commandOf judgeCommand actionKnown onChannel ifSized inRange ofReach onward finished fits
-      numberAt obeyed onRelay
+      numberAt obeyed onRelay followsIt framesOf onPresent present movedAt
   toggle-reply = rw (h, n)
 
-  nine-number : servedMessage 0 (seen 1024 toggleNine) p .answer ≡ 11
+  none-number : servedMessage 0 (seen 1024 toggleNone) p .answer ≡ 11
   unfolding seen servedMessage servedContent orderOf commandOf judgeCommand actionKnown onChannel ifSized inRange ofReach onward finished fits
-      numberAt obeyed
-  nine-number = rw (h, n)
+      numberAt obeyed followsIt framesOf
+  none-number = rw (h, n)
 
   clock-begins : getD (servedMessage 0 (seen 1024 askClock) p .reply) 0 0 ≡ 1
   unfolding seen servedMessage servedContent orderOf requestOf judgeRequest requestKnown sizedRequest ofReach onward optionally finished fits numberAt
-      obeyed
+      obeyed followsIt framesOf
   clock-begins = rw (h, n)
 
 -- AFTER THE OPENING connection 0 is open at rank 2, not strict, and relay 1 open; each toggle changes that
-first-line : lineAt 0 (connected 0 2 0 (poweredUp settings) .board) ≡ openedLine 2 0
-unfolding lineAt putLine onRows poweredUp connected openedLine
+first-line : lineAt 0 (connected 0 2 0 (poweredUp settings) .board) ≡ openedLine 2 0 false
+unfolding lineAt putLine onRows poweredUp connected openedLine filled
 first-line = refl
 
 rank-two : lineAt 0 (connected 0 2 0 (poweredUp settings) .board) .rank ≡ 2
-unfolding openedLine
+unfolding openedLine filled
 rank-two = ap (λ (l : Line). l .rank) first-line
 
 not-strict : isStrict 0 (connected 0 2 0 (poweredUp settings) .board) ≡ false
-unfolding openedLine
+unfolding openedLine filled
 not-strict = ap (λ (l : Line). isOn (l .strict)) first-line
 
 abbrev closedOne : Tables → Bool
@@ -105,23 +108,25 @@ toggled t = served .serve t 0 (seen 1024 toggle) .0
 
 module _ (row : List Pulse) where
   not-yet : closedOne (opened row) ≡ false
-  unfolding relayAt lineAt putLine onRows poweredUp connected
+  unfolding relayAt lineAt putLine onRows poweredUp connected filled
   not-yet = refl
 
   changes-once : closedOne (toggled (opened row)) ≡ true
   unfolding relayAt lineAt putRelay putLine onRows poweredUp connected openedLine seen servedMessage servedContent orderOf commandOf judgeCommand
-      actionKnown onChannel ifSized inRange ofReach onward finished fits numberAt obeyed onRelay marked markedRow
+      actionKnown onChannel ifSized inRange ofReach onward finished fits numberAt obeyed onRelay marked markedRow followsIt framesOf filled onPresent
+      present movedAt
   changes-once = refl
 
   changes-twice : closedOne (toggled (toggled (opened row))) ≡ false
   unfolding relayAt lineAt putRelay putLine onRows poweredUp connected openedLine seen servedMessage servedContent orderOf commandOf judgeCommand
-      actionKnown onChannel ifSized inRange ofReach onward finished fits numberAt obeyed onRelay marked markedRow
+      actionKnown onChannel ifSized inRange ofReach onward finished fits numberAt obeyed onRelay marked markedRow followsIt framesOf filled onPresent
+      present movedAt
   changes-twice = refl
 
 -- a row of pulses that is long enough
 module _ (row : List Pulse) (long : shortRow (length row) ≡ false) where
   takes-bytes : refusalOf (opened row) 0 4096 ≡ none
-  unfolding openedLine
+  unfolding openedLine filled
   takes-bytes = rw (ap (λ (l : Line). l .isOpen) first-line, long)
 
   module _ (M : Machine served) (x : M .State) (D : Meets served M x) (up : M .tables x ≡ opened row) where
@@ -146,9 +151,9 @@ module _ (row : List Pulse) (long : shortRow (length row) ≡ false) where
           arith,
           S 0 4096 toggle (record { taking = ready; frame = toggle-frame }),
           ap (λ (r : Reply). r .number) toggle-first,
-          S 0 4096 toggleNine (record { taking = ready; frame = nine-frame }),
-          ap (λ (r : Reply). r .number) (first-reply toggleNine nine-frame),
-          nine-number (opened row .board) rank-two not-strict,
+          S 0 4096 toggleNone (record { taking = ready; frame = none-frame }),
+          ap (λ (r : Reply). r .number) (first-reply toggleNone none-frame),
+          none-number (opened row .board) rank-two not-strict,
         )
 
     pub shut-out-same-bytes : (bs : List ℕ) → SameBytes M x bs → ⊥

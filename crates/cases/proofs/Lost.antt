@@ -14,6 +14,8 @@ use Prim.Native.Nat.{ℕ}
 use native.Mathlib.Omega.{arith}
 use lib.Dec.{lit≤}
 use lib.ListN.{getD, replicate}
+use Rattle.answers.specs.Calls.{framesOf}
+use Rattle.modules.specs.Modules.{filled}
 use Rattle.laws.specs.Put.{put}
 use Rattle.steps.specs.Steps.{stepOf, firstOf, afterOf}
 use Rattle.framing.specs.Reading.{roomOf, runOf}
@@ -37,7 +39,7 @@ use Rattle.judges.specs.Judges.{ofReach, ifSized, judgeSetClock}
 use Rattle.orders.specs.Orders.{setClockOf, orderOf}
 use Rattle.marks.specs.Marks.{markedRow, marked}
 use Rattle.plain.specs.Events.{leveled}
-use Rattle.serving.specs.Obeying.{clockTold, obeyed}
+use Rattle.serving.specs.Obeying.{clockTold, obeyed, followsIt}
 use Rattle.demand.proofs.Empty.{one-owed}
 use Rattle.cases.specs.Starred.{settings, noPulses}
 use Rattle.cases.specs.Lost.{boxWith, numbers, asOne, half, three, ReadsBack, widenedOf, uncountingCall, clocking, sharedCall, crossing, mutedCall, keepingCall, reopening}
@@ -103,13 +105,13 @@ countOne t = inputAt 1 (t .board) .count
 box-clocking : countOne (tablesOf (ends settings halves rooms noPulses clocking)) ≡ 1
 unfolding put fits numberAt stepOf firstOf afterOf roomOf runOf inputAt lineAt putInput putLine clockSet onRows onInput told levelOf judgeSetClock
     ifSized ofReach onward finished setClockOf orderOf markedRow marked openedLine leveled connected clockTold obeyed servedContent servedMessage
-    poweredUp halfAt putHalf bytesCall
+    poweredUp halfAt putHalf bytesCall followsIt framesOf filled
 box-clocking = refl
 
 uncounting-clocking : countOne (tablesOf (final served (boxWith uncountingCall) up clocking)) ≡ 0
 unfolding put fits numberAt stepOf firstOf afterOf roomOf runOf inputAt lineAt putInput putLine clockSet onRows onInput told levelOf judgeSetClock
     ifSized ofReach onward finished setClockOf orderOf markedRow marked openedLine leveled connected clockTold obeyed servedContent servedMessage
-    poweredUp halfAt putHalf bytesCall
+    poweredUp halfAt putHalf bytesCall followsIt framesOf filled
 uncounting-clocking = refl
 
 pub shut-out-uncounting : Demand3 served (boxWith uncountingCall) up clocking → ⊥
@@ -128,12 +130,12 @@ same-number call i calls D = ap (λ (ns : List ℕ). getD ns i 0) (same-numbers 
 
 box-crossing : boxNumber 3 crossing ≡ 2
 unfolding put stepOf firstOf afterOf roomOf runOf lineAt putLine onRows openedLine connected servedMessage poweredUp halfAt putHalf bytesCall
-    halvesAfter roomsAfter rowAfter queueOf
+    halvesAfter roomsAfter rowAfter queueOf filled
 box-crossing = refl
 
 shared-crossing : numberWith sharedCall 3 crossing ≡ 0
 unfolding put stepOf firstOf afterOf roomOf runOf lineAt putLine onRows openedLine connected servedMessage poweredUp halfAt putHalf bytesCall
-    halvesAfter roomsAfter rowAfter queueOf
+    halvesAfter roomsAfter rowAfter queueOf filled
 shared-crossing = refl
 
 pub shut-out-shared : Demand3 served (boxWith sharedCall) up crossing → ⊥
@@ -141,12 +143,12 @@ shut-out-shared D = omega (arith, sym shared-crossing ∙ same-number sharedCall
 
 box-reopening : boxNumber 4 reopening ≡ 2
 unfolding put stepOf firstOf afterOf roomOf runOf lineAt putLine onRows openedLine connected closed servedMessage poweredUp halfAt putHalf bytesCall
-    halvesAfter roomsAfter rowAfter queueOf
+    halvesAfter roomsAfter rowAfter queueOf filled
 box-reopening = refl
 
 keeping-reopening : numberWith keepingCall 4 reopening ≡ 0
 unfolding put stepOf firstOf afterOf roomOf runOf lineAt putLine onRows openedLine connected closed servedMessage poweredUp halfAt putHalf bytesCall
-    halvesAfter roomsAfter rowAfter queueOf
+    halvesAfter roomsAfter rowAfter queueOf filled
 keeping-reopening = refl
 
 pub shut-out-keeping : Demand3 served (boxWith keepingCall) up reopening → ⊥

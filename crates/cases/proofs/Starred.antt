@@ -2,6 +2,8 @@
 use mathlib.Core.Path.{_≡_, refl, ap}
 use mathlib.Core.List.{List, [], _∷_, _++_, map}
 use Prim.Native.Nat.{ℕ}
+use Rattle.answers.specs.Calls.{framesOf}
+use Rattle.modules.specs.Modules.{filled, movedAt, present}
 use Rattle.laws.specs.Put.{put, rows}
 use Rattle.laws.specs.Each.{anyBelow}
 use Rattle.laws.specs.Chunks.{chunks}
@@ -14,7 +16,7 @@ use Rattle.alarms.specs.Alarms.{alarmState, alarmAbove, alarmAtOrAbove}
 use Rattle.changes.specs.Answers.{onInput, onRelay}
 use Rattle.changes.specs.Levels.{levelOf}
 use Rattle.edits.specs.Edits.{told, inputWritten}
-use Rattle.changes.specs.Commands.{masked, blockedRow, blockOf}
+use Rattle.changes.specs.Commands.{masked, blockedRow, blockOf, onPresent}
 use Rattle.devices.specs.Devices.{deviceOf}
 use Rattle.changes.specs.Entries.{writeInput}
 use Rattle.layouts.specs.Layouts.{onward, optionally, finished}
@@ -28,8 +30,8 @@ use Rattle.readings.specs.Readings.{inputRow, monitorReply, inputBlock, entryOf
 use Rattle.writes.specs.Writes.{deviceDone, writtenFrom}
 use Rattle.connections.specs.Lines.{openedLine, connected, closed}
 use Rattle.marks.specs.Marks.{markedRow, marked}
-use Rattle.plain.specs.Events.{leveled, monitorSent, collected}
-use Rattle.serving.specs.Obeying.{monitorSet, obeyed}
+use Rattle.plain.specs.Events.{leveled, monitorsSent, collected}
+use Rattle.serving.specs.Obeying.{monitorSet, obeyed, followsIt}
 use Rattle.serving.specs.Serving.{servedContent, servedMessage}
 use Rattle.ring.specs.Ring.{rowAfter}
 use Rattle.powerup.specs.PowerUp.{poweredUp}
@@ -51,43 +53,46 @@ both {xs} {ys} p q = record { rows = rw (map-both (λ (r : Row). r .does) xs ys,
 count-top : Holds countTop
 unfolding countTop inputAt putInput onInput told levelOf deviceOf inputWritten writeInput entriesLength onward finished ofReach ifListed judgeWrite
     writeOf deviceDone writtenFrom markedRow leveled put fits numberAt stepOf firstOf afterOf roomOf runOf lineAt putLine onRows orderOf openedLine
-    marked connected obeyed servedContent servedMessage poweredUp halfAt putHalf bytesCall halvesAfter roomsAfter rowAfter queueOf
+    marked connected obeyed servedContent servedMessage poweredUp halfAt putHalf bytesCall halvesAfter roomsAfter rowAfter queueOf followsIt framesOf
+    filled
 count-top = record { rows = refl }
 
 told-again : Holds toldAgain
-unfolding toldAgain inputAt putInput onInput told levelOf markedRow leveled monitorSent collected lineAt putLine onRows openedLine marked connected
-    poweredUp putHalf
+unfolding toldAgain inputAt putInput onInput told levelOf markedRow leveled monitorsSent collected lineAt putLine onRows openedLine marked connected
+    poweredUp putHalf framesOf filled
 told-again = record { rows = refl }
 
 blocks : Holds blockCases
 unfolding blockCases anyBelow relayAt masked blockedRow blockOf onward finished ofReach ifSized actionKnown judgeCommand commandOf relaysOf markedRow
-    monitorSent collected put fits numberAt stepOf firstOf afterOf roomOf runOf lineAt putLine onRows orderOf openedLine marked connected obeyed
-    servedContent servedMessage poweredUp halfAt putHalf bytesCall halvesAfter roomsAfter rowAfter queueOf
+    monitorsSent collected put fits numberAt stepOf firstOf afterOf roomOf runOf lineAt putLine onRows orderOf openedLine marked connected obeyed
+    servedContent servedMessage poweredUp halfAt putHalf bytesCall halvesAfter roomsAfter rowAfter queueOf followsIt framesOf filled movedAt
 blocks = record { rows = refl }
 
 channels : Holds channelEdges
 unfolding channelEdges relayAt putRelay onRelay onward finished ofReach inRange ifSized onChannel actionKnown judgeCommand commandOf relaysOf
     markedRow put fits numberAt stepOf firstOf afterOf roomOf runOf lineAt putLine onRows orderOf openedLine marked connected obeyed servedContent
-    servedMessage poweredUp halfAt putHalf bytesCall halvesAfter roomsAfter rowAfter queueOf
+    servedMessage poweredUp halfAt putHalf bytesCall halvesAfter roomsAfter rowAfter queueOf followsIt framesOf filled onPresent present movedAt
 channels = record { rows = refl }
 
 lengths : Holds lengthCases
 unfolding lengthCases onward optionally finished ofReach sizedRequest requestKnown judgeRequest requestOf monitorSet put fits numberAt stepOf firstOf
     afterOf roomOf runOf lineAt putLine onRows orderOf openedLine marked connected obeyed servedContent servedMessage poweredUp halfAt putHalf
-    bytesCall halvesAfter roomsAfter rowAfter queueOf
+    bytesCall halvesAfter roomsAfter rowAfter queueOf followsIt framesOf filled
 lengths = record { rows = refl }
 
 writes : Holds writeCases
 unfolding writeCases rows chunks inputAt relayAt putInput alarmState alarmAbove alarmAtOrAbove onInput deviceOf inputWritten writeInput entriesLength
     onward finished ofReach ifListed judgeRead judgeWrite readOf writeOf inputsOf relaysOf inputRow monitorReply inputBlock readings.blockOf entryOf
-    idsIn devicesReply deviceDone writtenFrom monitorSent collected put fits numberAt stepOf firstOf afterOf roomOf runOf lineAt putLine onRows
+    idsIn devicesReply deviceDone writtenFrom monitorsSent collected put fits numberAt stepOf firstOf afterOf roomOf runOf lineAt putLine onRows
     orderOf openedLine marked connected obeyed servedContent servedMessage poweredUp halfAt putHalf bytesCall halvesAfter roomsAfter rowAfter queueOf
+    followsIt framesOf filled
 writes = record { rows = refl }
 
 strict : Holds strictCases
 unfolding strictCases bitStep bitSteps byteStep crcFrom crcOf anyBelow relayAt masked blockedRow blockOf onward finished ofReach ifSized actionKnown
     judgeCommand commandOf relaysOf markedRow put fits numberAt stepOf firstOf afterOf roomOf runOf lineAt putLine onRows orderOf openedLine marked
-    connected closed obeyed servedContent servedMessage poweredUp halfAt putHalf bytesCall halvesAfter roomsAfter rowAfter queueOf
+    connected closed obeyed servedContent servedMessage poweredUp halfAt putHalf bytesCall halvesAfter roomsAfter rowAfter queueOf followsIt framesOf
+    filled movedAt
 strict = record { rows = refl }
 
 pub starred : map (λ (r : Row). r .does) starredCases ≡ map (λ (r : Row). r .owes) starredCases
