@@ -1,3 +1,4 @@
+pub mod Steps
 pub mod Stored
 pub mod Turns
 pub mod Types

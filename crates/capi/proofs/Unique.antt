@@ -11,7 +11,8 @@ use Rattle.pieces.specs.declared.Done.{Done}
 use Rattle.halves.specs.Halves.{Halves}
 use Rattle.pieces.specs.Effects.{Effect, Ends, Answers}
 use Rattle.pieces.specs.Pieces.{bytesCall, halvesAfter, roomsAfter}
-use Rattle.board.specs.Calls.{passCall, passedIn}
+use Rattle.filling.specs.Filling.{rowEmptied}
+use Rattle.board.specs.Calls.{passCall, passedIn, fillCall, emptyCall}
 use Rattle.pieces.proofs.Same.{ends, answers, halved}
 use Rattle.capi.proofs.wellacorn_power_up.Reads as power-up
 use Rattle.capi.proofs.wellacorn_level.Reads as level
@@ -46,6 +47,17 @@ unique-close κs a r r′ s s′ p q = halved (a .1 .1 .0) (now (a .1 .0)) p q
 pub unique-collect : (κs : _) (a : _) (r r′ : _) (s s′ : _) → collect.Post κs a r s → collect.Post κs a r′ s′
     → (r ≡ r′) × (now (s .0) ≡ now (s′ .0)) × (now (s .1 .1 .0) ≡ now (s′ .1 .1 .0))
 unique-collect κs a r r′ s s′ p q = answers p q
+
+-- the contract of `capi::wellacorn_fill`, written out likewise
+pub unique-fill : (place : ℕ) (row : List Pulse) (b : Board) {b₁ b₂ : Board} {r₁ r₂ : Done} → Ends (fillCall place (length row) b) b₁ r₁
+    → Ends (fillCall place (length row) b) b₂ r₂ → (r₁ ≡ r₂) × (b₁ ≡ b₂)
+unique-fill place row b p q = ends p q
+
+-- the contract of `capi::wellacorn_empty`, written out likewise: an answer, the board and the row, after the call
+pub unique-empty : (place : ℕ) (row : List Pulse) (b : Board) {b₁ b₂ : Board} {row₁ row₂ : List Pulse} {r₁ r₂ : Done}
+    → Ends (emptyCall place (length row) b) b₁ r₁ × (row₁ ≡ rowEmptied place b row)
+    → Ends (emptyCall place (length row) b) b₂ r₂ × (row₂ ≡ rowEmptied place b row) → (r₁ ≡ r₂) × (b₁ ≡ b₂) × (row₁ ≡ row₂)
+unique-empty place row b p q = let same = ends (p .0) (q .0) in (same .0, same .1, p .1 ∙ sym (q .1))
 
 module _ (c : ℕ) (piece : List ℕ) (b : Board) (hs : Halves) (rooms : List ℕ) (row : List Pulse) (o : List ℕ) where
   abbrev effect : Effect

@@ -16,10 +16,9 @@ use Rattle.laws.proofs.Tests.{by-cases}
 use Rattle.words.specs.Words.{Stored}
 use Rattle.words.proofs.Laws.{stored}
 use Rattle.rows.specs.Places.{Board}
-use Rattle.writers.specs.Writers.{relaysOf}
 use Rattle.pieces.specs.declared.Done.{Done}
 use Rattle.halves.specs.Halves.{Halves}
-use Rattle.console.specs.Digits.{relayBits, shownOf}
+use Rattle.console.specs.Digits.{allRelays, relayBits, shownOf}
 use Rattle.console.specs.Lines.{shown}
 use Rattle.console.specs.Console.{Held, held, soFar, lineHeld, ended, kept, step, says, run, said}
 use Rattle.console.proofs.Feeding.{FedLine}
@@ -28,12 +27,12 @@ module _ (h : Held) (len : ℕ) where
   -- the line's part of the store is fed, and its answer written
   pub line-ended : (part : List ℕ) (d : Done) (b : Board) (hs : Halves) (rooms reply text out out′ : List ℕ) (bits len′ : ℕ) → part ≡ soFar h
       → FedLine part (h .board) (h .halves) (h .rooms) (h .reply) b hs rooms reply d
-      → bits ≡ relayBits (relaysOf b) → text ≡ shownOf (d .answer) bits → Stored len text out out′ len′ → len + 5 ≤ length out
+      → bits ≡ relayBits (allRelays b) → text ≡ shownOf (d .answer) bits → Stored len text out out′ len′ → len + 7 ≤ length out
       → (held b hs rooms (h .line) 0 reply ≡ ended h) × Wrote len (shown (lineHeld h)) out out′ len′
   unfolding ended shown shownOf
   line-ended part d b hs rooms reply text out out′ bits len′ p a e t w fits =
       let f = rw p at a in
-      let long : length text ≡ 5 = ap length t in
+      let long : length text ≡ 7 = ap length t in
       let shows : text ≡ shown (lineHeld h) = t ∙ rw (e, f .0 .gives, f .0 .board) in
       (rw (f .0 .board, f .1 .0, f .1 .1, f .0 .leaves), rw shows at (stored (omega arith) w))
 
@@ -59,7 +58,7 @@ said-snoc h (x ∷ bs) b =
     ap (λ (l : List ℕ). says h x ++ l) (said-snoc (step h x) bs b)
     ∙ sym (append-assoc (says h x) (said (step h x) bs) (says (run (step h x) bs) b))
 
-says-short : (h : Held) (b : ℕ) → length (says h b) ≤ 5
+says-short : (h : Held) (b : ℕ) → length (says h b) ≤ 7
 unfolding says shown shownOf
 says-short h b = by-cases (eqb b 10) (λ t. rw t (omega arith)) (λ f. rw f (omega arith))
 
@@ -68,7 +67,7 @@ pub record Running (h₀ : Held) (input o₀ : List ℕ) (h : Held) (o : List �
   pub in-range : i ≤ length input
   pub so-far : h ≡ run h₀ (take i input)
   pub wrote : Wrote 0 (said h₀ (take i input)) o₀ o len
-  pub room : len ≤ i * 5
+  pub room : len ≤ i * 7
   pub same : length o ≡ length o₀
 
 module _ {h₀ : Held} {input o₀ : List ℕ} where

@@ -1,11 +1,14 @@
--- Hexadecimal lines and the four digits of an answer: 01, Console, 1 to 4.
+-- Hexadecimal lines and the digits of an answer: 01, Console, 1 to 4; 02, M-102, 10.
 use mathlib.Core.Bool.{Bool, true, cond, _&&_, _||_}
-use mathlib.Core.List.{List, [], _∷_}
+use mathlib.Core.List.{List, [], _∷_, _++_, map}
 use mathlib.Core.Option.{Option, none, some}
 use Prim.Native.Nat.{ℕ, _+_, _-_, _*_, _/_, _%_}
 use lib.Dec.{eqb, leb, ltb}
 use lib.ListN.{length}
 use Rattle.rows.specs.declared.Relay.{Relay}
+use Rattle.rows.specs.Places.{Board, relayAt}
+use Rattle.modules.specs.Modules.{secondDeck}
+use Rattle.writers.specs.Writers.{allChannels}
 use Rattle.console.specs.declared.Parsed.{Parsed}
 use Rattle.console.specs.declared.Parsed.the-variants.{Bytes, Bad}
 
@@ -59,11 +62,20 @@ glyph d = cond (ltb d 10) (48 + d) (55 + d)
 abbrev pub closedBit : Relay → ℕ
 closedBit r = cond (r .closed) 1 0
 
--- the relays as a number, channel 1 the lowest bit
+-- 02, M-102, 10: all relays in their order, those of the second deck too
+unfoldable pub allRelays : Board → List Relay
+allRelays b = map (λ k. relayAt k b) (allChannels ++ secondDeck)
+
+-- the relays as a number, relay 1 the lowest bit
 unfoldable pub relayBits : List Relay → ℕ
 relayBits [] = 0
 relayBits (r ∷ rs) = closedBit r + 2 * relayBits rs
 
--- 01, Console, 2: two digits of the answer, two of the relays, and a newline
+-- the digit of a number that has this weight: 1, 16, 256 or 4,096
+abbrev pub weighed : ℕ → ℕ → ℕ
+weighed number weight = glyph (number / weight % 16)
+
+-- 01, Console, 2, and 02, M-102, 10: two digits of the answer, four of the relays, and a newline
 unfoldable pub shownOf : ℕ → ℕ → List ℕ
-shownOf answer relays = glyph (answer / 16) ∷ glyph (answer % 16) ∷ glyph (relays / 16) ∷ glyph (relays % 16) ∷ 10 ∷ []
+shownOf answer relays =
+    weighed answer 16 ∷ weighed answer 1 ∷ weighed relays 4096 ∷ weighed relays 256 ∷ weighed relays 16 ∷ weighed relays 1 ∷ 10 ∷ []

@@ -7,14 +7,13 @@ use lib.Dec.{eqb}
 use Rattle.answers.specs.Calls.{refused}
 use Rattle.steps.specs.Steps.{start}
 use Rattle.rows.specs.Places.{Board}
-use Rattle.writers.specs.Writers.{relaysOf}
 use Rattle.powerup.specs.PowerUp.{blankSettings, poweredUp}
 use Rattle.halves.specs.Halves.{Halves, putHalf}
 use Rattle.pieces.specs.Effects.{Effect, still}
 use Rattle.pieces.specs.Pieces.{bytesCall, halvesAfter, roomsAfter}
 use Rattle.board.specs.Calls.{connectCall}
 use lib.ListN.{replicate}
-use Rattle.console.specs.Digits.{parsed, relayBits, shownOf}
+use Rattle.console.specs.Digits.{parsed, allRelays, relayBits, shownOf}
 
 -- a character at the front of the first line
 unfoldable pub onFirst : ℕ → List (List ℕ) → List (List ℕ)
@@ -60,7 +59,7 @@ lineRooms line b hs rooms = roomsOffered (parsed line) b hs rooms
 
 -- 01, Console, 2: what is printed of it
 unfoldable pub shown : Effect → List ℕ
-shown e = shownOf (e .did .answer) (relayBits (relaysOf (e .did .board)))
+shown e = shownOf (e .did .answer) (relayBits (allRelays (e .did .board)))
 
 -- 01, Console, 2 and 5: all that is printed: line by line, and nothing else
 unfoldable pub printed : Board → Halves → List ℕ → List (List ℕ) → List ℕ

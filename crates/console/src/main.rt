@@ -1,17 +1,16 @@
-// The console: lines of hexadecimal in, four digits a line out. Each line is one piece for connection 0, which is open at rank 2.
+// The console: lines of hexadecimal in, two digits of the answer and four of the relays a line out. Each line is one piece for connection 0, which is open at rank 2.
 // `main` lends the board, the half-read messages (halves), their content (rooms), the line that has not ended and the reply buffer.
 // It alone knows hexadecimal and lines. `main`, `read_all`, `read_on` and `write_out` read and write and do nothing else; every other function is
 // on slices and numbers, and its contract says all that it answers and leaves.
 
 ghost use mathlib.Core.Path.{_≡_};
 ghost use mathlib.Core.Bool.{cond};
-ghost use Prim.Native.Nat.{_+_, _≤_, _<_, min};
+ghost use Prim.Native.Nat.{_+_, _/_, _%_, _≤_, _<_, min};
 ghost use lib.Dec.{ltb};
 ghost use lib.ListN.{length, set, take};
 ghost use Rattle.laws.specs.Put.{put, Wrote};
-ghost use Rattle.writers.specs.Writers.{relaysOf};
 ghost use Rattle.pieces.specs.Effects.{Answers};
-ghost use Rattle.console.specs.Digits.{isDigit, digitOf, allDigits, feeds, pairs, parsed, told, bytesIn, glyph as Digits·glyph, closedBit, relayBits, shownOf};
+ghost use Rattle.console.specs.Digits.{isDigit, digitOf, allDigits, feeds, pairs, parsed, told, bytesIn, glyph as Digits·glyph, closedBit, relayBits, allRelays, shownOf};
 ghost use Rattle.console.specs.Lines.{started, startedHalves, lineCall, lineHalves, lineRooms, shown};
 ghost use Rattle.console.specs.Console.{heldOf, lineHeld, ended, step, says, run, said, atEnd, saidAtEnd, everyRead, readsLeft, Spent};
 use libc::STDIN_FILENO;
@@ -161,18 +160,18 @@ fn feed_line(
 
 // ---- an answer in digits
 
-fn closed_bit(r: Relay) -> u8
+fn closed_bit(r: Relay) -> u16
     ensures { λ v. ⌜ (v ≡ closedBit r) × (v < 2) ⌝ }
 {
     if r.closed { 1 } else { 0 }
 }
 
-// The relays as a byte, the last first, so that channel 1 ends as the lowest bit.
-fn relay_byte(board: &[[u64; 8]; ROWS]) -> u8
-    ensures { λ r. ⌜ r ≡ relayBits (relaysOf (now (board .entry))) ⌝ }
+// The relays as a number, the last first, so that relay 1 ends as the lowest bit.
+fn relay_number(board: &[[u64; 8]; ROWS]) -> u16
+    ensures { λ r. ⌜ r ≡ relayBits (allRelays (now (board .entry))) ⌝ }
 {
-    let mut v: u8 = 0;
-    let mut k: usize = 8;
+    let mut v: u16 = 0;
+    let mut k: usize = 16;
     while 0 < k {
         let r = rows::relay_at(board, k);
         k -= 1;
@@ -188,14 +187,24 @@ fn glyph(d: u8) -> u8
     if d < 10 { 48 + d } else { 55 + d }
 }
 
-fn digits(answer: u8, relays: u8) -> [u8; 5]
+// The digit of a number that has this weight: 1, 16, 256 or 4,096.
+fn digit_of(number: u16, weight: u16) -> u8
+    requires { ⌜ 0 < weight ⌝ }
+    ensures { λ r. ⌜ r ≡ Digits·glyph (number / weight % 16) ⌝ }
+{
+    glyph((number / weight % 16) as u8)
+}
+
+fn digits(answer: u8, relays: u16) -> [u8; 7]
     ensures { λ r. ⌜ r ≡ shownOf answer relays ⌝ }
 {
     [
-        glyph(answer / 16),
-        glyph(answer % 16),
-        glyph(relays / 16),
-        glyph(relays % 16),
+        digit_of(answer as u16, 16),
+        digit_of(answer as u16, 1),
+        digit_of(relays, 4096),
+        digit_of(relays, 256),
+        digit_of(relays, 16),
+        digit_of(relays, 1),
         10,
     ]
 }
@@ -241,7 +250,7 @@ fn end_line(
     reply: &mut [u8; 4096],
     out: &mut [u8],
 ) -> Console
-    requires { ⌜ s .len + 5 ≤ length (now out) ⌝ }
+    requires { ⌜ s .len + 7 ≤ length (now out) ⌝ }
     ensures { λ r. ⌜ heldOf r (now (board .exit)) (now (halves .exit)) (now (rooms .exit)) (now (line .entry)) (now (reply .exit))
         ≡ ended (heldOf s (now (board .entry)) (now (halves .entry)) (now (rooms .entry)) (now (line .entry)) (now (reply .entry))) ⌝ }
     ensures { λ r. ⌜ Wrote (s .len)
@@ -249,7 +258,7 @@ fn end_line(
         (now (out .entry)) (now (out .exit)) (r .len) ⌝ }
 {
     let d = feed_line(board, halves, rooms, so_far(line, s.used), reply);
-    let text = digits(d.answer, relay_byte(board));
+    let text = digits(d.answer, relay_number(board));
     let at = s.len;
     let len = copying::copy(out, at, &text);
     Console {
@@ -281,7 +290,7 @@ fn take_byte(
     out: &mut [u8],
     byte: u8,
 ) -> Console
-    requires { ⌜ s .len + 5 ≤ length (now out) ⌝ }
+    requires { ⌜ s .len + 7 ≤ length (now out) ⌝ }
     ensures { λ r. ⌜ heldOf r (now (board .exit)) (now (halves .exit)) (now (rooms .exit)) (now (line .exit)) (now (reply .exit))
         ≡ step (heldOf s (now (board .entry)) (now (halves .entry)) (now (rooms .entry)) (now (line .entry)) (now (reply .entry))) byte ⌝ }
     ensures { λ r. ⌜ Wrote (s .len)
@@ -313,7 +322,7 @@ fn take_read(
     line: &mut [u8; 2059],
     reply: &mut [u8; 4096],
     input: &[u8],
-    out: &mut [u8; 20480],
+    out: &mut [u8; 28672],
 ) -> Console
     ensures { λ r. ⌜ heldOf r (now (board .exit)) (now (halves .exit)) (now (rooms .exit)) (now (line .exit)) (now (reply .exit))
         ≡ run (heldOf s (now (board .entry)) (now (halves .entry)) (now (rooms .entry)) (now (line .entry)) (now (reply .entry)))
@@ -342,7 +351,7 @@ fn take_end(
     rooms: &mut [u8; 4096],
     line: &[u8; 2059],
     reply: &mut [u8; 4096],
-    out: &mut [u8; 5],
+    out: &mut [u8; 7],
 ) -> Console
     ensures { λ r. ⌜ heldOf r (now (board .exit)) (now (halves .exit)) (now (rooms .exit)) (now (line .entry)) (now (reply .exit))
         ≡ atEnd (heldOf s (now (board .entry)) (now (halves .entry)) (now (rooms .entry)) (now (line .entry)) (now (reply .entry))) ⌝ }
@@ -411,7 +420,7 @@ fn read_on(
     let mut input = [0u8; 4096];
     let got = libc::read(STDIN_FILENO, &mut input);
     let n = io::count(got, &input);
-    let mut out = [0u8; 20480];
+    let mut out = [0u8; 28672];
     let console = take_read(s, board, halves, rooms, line, reply, &input[..n], &mut out);
     let written = write_out(&out, console.len);
     let left = reads_left(left, n, written);
@@ -457,7 +466,7 @@ fn main() {
         &mut reply,
     );
     let read = turn.console;
-    let mut out = [0u8; 5];
+    let mut out = [0u8; 7];
     let last = take_end(
         read,
         &mut board,

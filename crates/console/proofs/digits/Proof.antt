@@ -13,4 +13,14 @@ digits-spec =
     (λ c κs. search needs)
     (λ c κs. search needs)
     (λ c κs. search needs)
-    (λ c. rw (c .glyph4 .ensures, c .before .glyph3 .ensures, c .before .before .glyph2 .ensures, c .before .before .before .glyph .ensures)))
+    (λ c κs. search needs)
+    (λ c κs. search needs)
+    (λ c. let d = c .before .before .before in
+    rw (
+      d .before .before .digit-of .ensures,
+      d .before .digit-of2 .ensures,
+      d .digit-of3 .ensures,
+      c .before .before .digit-of4 .ensures,
+      c .before .digit-of5 .ensures,
+      c .digit-of6 .ensures,
+    )))

@@ -18,7 +18,7 @@ end-line-spec =
     (λ c. search needs)
     (λ c.
     let d = c .before .before .before .before .before .digits in
-    let r = c .before .before .before .before .before .before .relay-byte in
+    let r = c .before .before .before .before .before .before .relay-number in
     let k = c .before .before .before .before .before .before .before .before in
     let f = k .feed-line in
     let i = k .before .before .before .before .before .before .before .before in

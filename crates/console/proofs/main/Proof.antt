@@ -14,6 +14,6 @@ main-spec =
     (λ c κs. search needs)
     (λ c κs. search needs)
     (λ c κs. search needs)
-    (λ c. sym (kept (c .before .take-end .ensures .1) ∙ length-replicate {A = ℕ} 5 0))
+    (λ c. sym (kept (c .before .take-end .ensures .1) ∙ length-replicate {A = ℕ} 7 0))
     (λ c κs. search needs)
     (λ c. search needs))

@@ -29,7 +29,7 @@ read-on-spec =
     (λ c. search needs)
     (λ c. search needs)
     (λ c κs. search needs)
-    (λ c. sym (kept (c .before .take-read .ensures .1) ∙ length-replicate {A = ℕ} 20480 0))
+    (λ c. sym (kept (c .before .take-read .ensures .1) ∙ length-replicate {A = ℕ} 28672 0))
     (λ c κs. search needs)
     (λ c κs. search needs)
     (λ c. rw (c .reads-left .ensures) (spent _ _ _)))

@@ -28,7 +28,7 @@ take-read-spec =
     (λ c. omega (arith, c .before .before .before .before .before .before .before .before .loop .inv .2))
     (λ c κs.
     let l = c .before .before .before .before .before .before .before .before .loop in
-    let room : length (l .out) ≡ 20480 = search needs in
+    let room : length (l .out) ≡ 28672 = search needs in
     omega (arith, l .inv .0 .room, l .inv .2))
     (λ c. omega (arith, c .before .before .before .before .before .before .before .before .before .loop .inv .2))
     (λ c. search needs)

@@ -1,9 +1,9 @@
--- `console::relay_byte`.
+-- `console::relay_number`.
 use native.Mathlib.Omega.{arith}
 use borrow.Author.Needs.{needs}
 use Rattle.console.proofs.Showing.{Gathering, another-fits, gather-start, gather-turn, gather-done}
-use Rattle.console.proofs.relay_byte.Statement.{statement}
-use Rattle.console.proofs.relay_byte.Tie as tie
+use Rattle.console.proofs.relay_number.Statement.{statement}
+use Rattle.console.proofs.relay_number.Tie as tie
 
 abbrev Inv-loop : tie.InvT-loop
 Inv-loop board v₀ k₀ v k = Gathering board v k
@@ -11,8 +11,8 @@ Inv-loop board v₀ k₀ v k = Gathering board v k
 abbrev μ-loop : tie.MeasureT-loop
 μ-loop board v₀ k₀ v k = k
 
-pub relay-byte-spec : {M : Type 1} → statement M
-relay-byte-spec =
+pub relay-number-spec : {M : Type 1} → statement M
+relay-number-spec =
     tie.close
     (tie.spec
     Inv-loop
