@@ -27,7 +27,7 @@ LIMIT = 120     # seconds until a run is given up
 
 # "Input .. prints ..", 01, the console.
 EXAMPLE = b"010004FFFF0A0A0505\n010004FFFF0A030001\n010003FFFF0A0300\n06\n"
-ANSWERS = b"0105\n0104\n1404\n0204\n"
+ANSWERS = b"010005\n010004\n140004\n020004\n"
 
 
 # ---------------------------------------------------------------------------------------------
@@ -106,7 +106,7 @@ def expected(lines):
         if re.fullmatch(rb"(?:[0-9A-F]{2}){1,1029}", line):
             answer = box.bytes_(0, 4096, bytes.fromhex(line.decode()))[0]
         relays = sum(relay.state << k for k, relay in enumerate(box.relays))
-        printed.append(b"%02X%02X\n" % (answer, relays))
+        printed.append(b"%02X%04X\n" % (answer, relays))
     return b"".join(printed)
 
 
