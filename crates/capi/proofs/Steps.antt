@@ -15,7 +15,8 @@ use base.Fml.{Lft, GName, Share, Fml, fsep, flft, fdead, fobs, fauth, flent, fob
 use prog.Wp.{Heap}
 use ghost.Atoms.{Atoms, sem}
 use contract.Monad.{fact, factI}
-use types.Kit.{Given, Item, Goal, Soaks, Seq, Step, step, ‵, _⊛_, some, later, _$_, _∵_, !, qed, move, use1, use2, split, pick, fsplit, fsplit3, fjoin, fjoin3, feqL, feqI, frame, await, updating, now as at-once, show, done}
+use types.Kit.{Given, Item, Goal, Soaks, Seq, Step, step, ‵, _⊛_, some, later, _$_, _∵_, !, qed, move}
+use types.Kit.{use1, use2, split, pick, fsplit, fsplit3, fjoin, fjoin3, feqL, feqI, frame, await, updating, now as at-once, show, done}
 use types.SemTy.{Body}
 use types.Mut.{open-ref, close-ref}
 use types.Tokens.{lft-new, lft-end, lent-back}

@@ -1,4 +1,5 @@
-// The console: lines of hexadecimal in, two digits of the answer and four of the relays a line out. Each line is one piece for connection 0, which is open at rank 2.
+// The console: lines of hexadecimal in, two digits of the answer and four of the relays a line out. Each line is one piece for connection 0,
+// which is open at rank 2.
 // `main` lends the board, the half-read messages (halves), their content (rooms), the line that has not ended and the reply buffer.
 // It alone knows hexadecimal and lines. `main`, `read_all`, `read_on` and `write_out` read and write and do nothing else; every other function is
 // on slices and numbers, and its contract says all that it answers and leaves.
@@ -10,7 +11,8 @@ ghost use lib.Dec.{ltb};
 ghost use lib.ListN.{length, set, take};
 ghost use Rattle.laws.specs.Put.{put, Wrote};
 ghost use Rattle.pieces.specs.Effects.{Answers};
-ghost use Rattle.console.specs.Digits.{isDigit, digitOf, allDigits, feeds, pairs, parsed, told, bytesIn, glyph as Digits·glyph, closedBit, relayBits, allRelays, shownOf};
+ghost use Rattle.console.specs.Digits.{isDigit, digitOf, allDigits, feeds, pairs, parsed};
+ghost use Rattle.console.specs.Digits.{told, bytesIn, glyph as Digits·glyph, closedBit, relayBits, allRelays, shownOf};
 ghost use Rattle.console.specs.Lines.{started, startedHalves, lineCall, lineHalves, lineRooms, shown};
 ghost use Rattle.console.specs.Console.{heldOf, lineHeld, ended, step, says, run, said, atEnd, saidAtEnd, everyRead, readsLeft, Spent};
 use libc::STDIN_FILENO;

@@ -19,7 +19,8 @@ use prog.Wp.{Heap, Env, Calls, Loops}
 use ghost.Atoms.{Atoms, sem}
 use contract.Monad.{fact, factI, fact-use}
 use sound.WpLaws.{FmC}
-use types.Kit.{Given, Item, Goal, Post, Soaks, Seq, Step, step, mean, runs, lands, ‵, raw, _⊛_, some, later, _$_, _∵_, !, qed, move, drop, use0, use1, use2, use3, split, join, pick, fjoin, frame, await, done}
+use types.Kit.{Given, Item, Goal, Post, Soaks, Seq, Step, step, mean, runs, lands, ‵, raw, _⊛_, some, later}
+use types.Kit.{_$_, _∵_, !, qed, move, drop, use0, use1, use2, use3, split, join, pick, fjoin, frame, await, done}
 use types.Run.{Opds}
 use types.Tokens.{lft-new, lft-end}
 use denote.RattleType.{RattleType, owns}

@@ -16,7 +16,8 @@ use base.Logic.{ent, sep, ex}
 use base.Fml.{Lft, GName, Share, Fml, fsep, flft, fdead, fobs, fauth, flent, fobor}
 use prog.Wp.{Heap}
 use ghost.Atoms.{Atoms, sem}
-use types.Kit.{Given, Item, Goal, Soaks, Seq, Step, step, ‵, _⊛_, some, later, _$_, _∵_, !, qed, move, use1, use2, use3, drop, split, pick, rewrite, fsplit, fjoin, feqI, frame, await, updating, now as at-once, show, done}
+use types.Kit.{Given, Item, Goal, Soaks, Seq, Step, step, ‵, _⊛_, some, later, _$_, _∵_, !, qed, move}
+use types.Kit.{use1, use2, use3, drop, split, pick, rewrite, fsplit, fjoin, feqI, frame, await, updating, now as at-once, show, done}
 use types.SemTy.{cells, Arr}
 use types.Share.{arr-parts}
 use types.Tokens.{lft-new, lft-end, lent-back}

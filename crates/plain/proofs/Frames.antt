@@ -64,7 +64,7 @@ pub behind-yes : {wanted : Bool} {at r : ℕ} {vs l l′ : List ℕ} → at + 5 
 behind-yes {wanted} {at} {r} {vs} {l} {l′} h b = go wanted b
   where
     go : (wanted : Bool) → Behind wanted at vs l l′ r → Wrote at (framesOf (ifWanted wanted vs)) l l′ r
-    go true b = one-frame (record { bytes = b .bytes ∙ rw (le-leb (at + 5 + externalRoom) (length l) h); place = b .place ∙ rw (le-leb (at + 5 + externalRoom) (length l) h) })
+    go true b = let e = le-leb (at + 5 + externalRoom) (length l) h in one-frame (record { bytes = b .bytes ∙ rw e; place = b .place ∙ rw e })
     go false b = rw (b .bytes, b .place) (no-frame at l)
 
 -- the Monitor message, if it is wanted, has 102 bytes

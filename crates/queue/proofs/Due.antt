@@ -19,7 +19,8 @@ use Rattle.rows.specs.declared.Queue.{Queue}
 use Rattle.rows.specs.declared.Line.{Line}
 use Rattle.rows.specs.declared.Relay.{Relay}
 use Rattle.rows.specs.Rows.{lineIn, dueWords, relayIn, blankRelay}
-use Rattle.rows.specs.Places.{Board, isChannel, isRelay, rowAt, relayAt, lineAt, firstRelay, relayPlace, clockRow, firstLine, linePlace, queueRow, queueOf, putQueue, onRows}
+use Rattle.rows.specs.Places.{Board, isChannel, isRelay, rowAt, relayAt, lineAt, firstRelay}
+use Rattle.rows.specs.Places.{relayPlace, clockRow, firstLine, linePlace, queueRow, queueOf, putQueue, onRows}
 use Rattle.rows.proofs.Channel.{channel}
 use Rattle.rows.proofs.Range.{beyond}
 use Rattle.laws.specs.Bits.{bitOf}
@@ -209,7 +210,9 @@ module _ (mask states : ℕ) (q : Queue) (b : Board) where
   line-after c h = rw (line-put q c b h, module-put q b) at (line-switched mask states c (putQueue q b) h)
 
   told-kept : (c k : ℕ) (z : Board) → c < 4 → Told k z (lineAt c b) → Told k z (lineAt c after)
-  told-kept c k z h e = rw (line-after c h) (told-on (lineAt c b) k z (moves mask states (putQueue q b) && watches (lineAt c b)) (blockMoved mask states (putQueue q b) .inner) (hasModule b) e)
+  told-kept c k z h e =
+      rw (line-after c h)
+      (told-on (lineAt c b) k z (moves mask states (putQueue q b) && watches (lineAt c b)) (blockMoved mask states (putQueue q b) .inner) (hasModule b) e)
 
   watches-kept : (c : ℕ) → c < 4 → watches (lineAt c after) ≡ watches (lineAt c b)
   watches-kept c h = ap watches (line-after c h)

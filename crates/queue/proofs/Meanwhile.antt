@@ -19,7 +19,8 @@ use Rattle.rows.specs.declared.Input.{Input}
 use Rattle.rows.specs.declared.Relay.{Relay}
 use Rattle.rows.specs.declared.Line.{Line}
 use Rattle.rows.specs.Rows.{queueIn, inputWords, relayWords, lineWords}
-use Rattle.rows.specs.Places.{Board, isChannel, isRelay, isConnection, rowAt, inputPlace, relayPlace, linePlace, inputAt, relayAt, putInput, putRelay, putLine, clockRow, clockSet, firstRelay, firstLine, queueRow, queueOf, onRows}
+use Rattle.rows.specs.Places.{Board, isChannel, isRelay, isConnection, rowAt, inputPlace, relayPlace, linePlace, inputAt, relayAt}
+use Rattle.rows.specs.Places.{putInput, putRelay, putLine, clockRow, clockSet, firstRelay, firstLine, queueRow, queueOf, onRows}
 use Rattle.rows.proofs.Channel.{in-range, relay-range}
 use Rattle.rows.proofs.Range.{beyond}
 use Rattle.changes.specs.Answers.{onInput, onRelay}

@@ -17,7 +17,8 @@ use Rattle.laws.proofs.Tests.{by-cases}
 use Rattle.rows.specs.declared.Queue.{Queue}
 use Rattle.rows.specs.declared.Relay.{Relay}
 use Rattle.rows.specs.Rows.{word, stateWord, usageWord, isOn}
-use Rattle.rows.specs.Places.{Board, isRelay, rowAt, relayAt, lineAt, relayPlace, linePlace, firstOuter, clockRow, clockSet, queueRow, queueOf, putQueue, leftSet, onRows}
+use Rattle.rows.specs.Places.{Board, isRelay, rowAt, relayAt, lineAt, relayPlace, linePlace}
+use Rattle.rows.specs.Places.{firstOuter, clockRow, clockSet, queueRow, queueOf, putQueue, leftSet, onRows}
 use Rattle.rows.proofs.Channel.{relay-range, channel}
 use Rattle.rows.proofs.Range.{within, behind}
 use Rattle.rows.specs.Held as held

@@ -159,7 +159,13 @@ pub contract-empty : (place : ℕ) (row row′ : List Pulse) (b b′ : Board) (r
     → boxCall (held b hs rooms row) (calls.other (box.empty place)) ≡ stepOf b′ hs rooms row′ r (calls.did (readOf r []))
 unfolding emptyCall placeEmptied
 contract-empty place row row′ b b′ r p e hs rooms =
-    rw (p .gives, p .board, e, unread (placeEmptied (length row) place b) (place-cases emptiedAt (length row) place b (λ (d : Did). d .reply ≡ []) refl refl refl))
+    rw (
+      p .gives,
+      p .board,
+      e,
+      unread (placeEmptied (length row) place b)
+          (place-cases emptiedAt (length row) place b (λ (d : Did). d .reply ≡ []) refl refl refl),
+    )
 
 -- of bytes: board, halves, rooms, row and reply buffer, before the call and after it
 pub contract-bytes : (c : ℕ) (piece : List ℕ) (b b′ : Board) (hs hs′ : Halves) (rooms rooms′ : List ℕ) (row row′ : List Pulse) (o o′ : List ℕ) (r : Done)

@@ -31,7 +31,8 @@ use Rattle.demand.specs.Demand.{refused, did, Call, bytes, other, feedsTo, Answ
 use Rattle.demand.specs.Lawful as lawful-spec
 use Rattle.demand.specs.Lawful.{Lawful, outside}
 use Rattle.demand.proofs.Meeting.{demand-3}
-use Rattle.register.specs.Box.{Event, level, pass, connect, close, collect, fill, empty, Reply, replyOf, refusing, Tables, refusalOf, happens, on, tablesAfter, served, Held, held, tablesOf, saying, boxCall, box}
+use Rattle.register.specs.Box.{Event, level, pass, connect, close, collect, fill, empty, Reply, replyOf, refusing}
+use Rattle.register.specs.Box.{Tables, refusalOf, happens, on, tablesAfter, served, Held, held, tablesOf, saying, boxCall, box}
 use Rattle.register.proofs.Touching.{fill-event, empty-event, as-open, unmarked-settled, level-event, pass-event, collect-touches}
 use Rattle.register.proofs.Numbers.{Answering, message-judged, judged-answers}
 use Rattle.register.proofs.BoxCalls.{row-same, ready, feeds-effect, feeds-halves, feeds-rooms, bytes-touches, bytes-halves, bytes-rooms, bytes-half-apart, bytes-room-apart, dropped-apart, left-length, connect-apart, connect-keeps, connect-starts, close-shuts, close-apart}

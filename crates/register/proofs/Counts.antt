@@ -17,7 +17,8 @@ use Rattle.rows.specs.declared.Input.{Input}
 use Rattle.rows.specs.declared.Relay.{Relay}
 use Rattle.rows.specs.declared.Line.{Line}
 use Rattle.rows.specs.Rows.{isOn, word, stateWord, usageWord, externalWord, inputIn, lineIn, shutLine}
-use Rattle.rows.specs.Places.{Board, isChannel, isRelay, isConnection, rowAt, inputAt, relayAt, putInput, putRelay, putLine, clockSet, onRows, inputPlace, relayPlace, linePlace, firstInput, firstRelay, firstOuter, firstLine, clockRow, queueRow, queueOf, rows, lineAt}
+use Rattle.rows.specs.Places.{Board, isChannel, isRelay, isConnection, rowAt, inputAt, relayAt, putInput, putRelay, putLine, clockSet, onRows}
+use Rattle.rows.specs.Places.{inputPlace, relayPlace, linePlace, firstInput, firstRelay, firstOuter, firstLine, clockRow, queueRow, queueOf, rows, lineAt}
 use Rattle.rows.proofs.Channel.{in-range, channel}
 use Rattle.modules.specs.declared.Moved.{Moved}
 use Rattle.modules.specs.Modules.{present, hasModule}

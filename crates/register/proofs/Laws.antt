@@ -47,7 +47,8 @@ use Rattle.halves.specs.Halves.{Halves}
 use Rattle.pieces.specs.Pieces.{answered, fed, bytesCall}
 use Rattle.board.specs.Calls.{passCall}
 use Rattle.demand.specs.Demand.{Call, bytes, other}
-use Rattle.register.specs.Box.{Event, level, pass, connect, close, collect, fill, empty, Tables, happens, rowLeft, on, whose, served, beforeBytes, Held, held, tablesOf, effectOf, halvesOf, boxCall}
+use Rattle.register.specs.Box.{Event, level, pass, connect, close, collect, fill, empty, Tables, happens}
+use Rattle.register.specs.Box.{rowLeft, on, whose, served, beforeBytes, Held, held, tablesOf, effectOf, halvesOf, boxCall}
 use Rattle.register.specs.Laws.{TypeSeven, ButClock, Untouched, Placed, isOf, callOn, Kept}
 use Rattle.register.proofs.Cases.{frame-cases, bytes-cases, connect-cases, close-cases, collect-cases, place-cases}
 use Rattle.register.proofs.Touching.{level-event, pass-event, fill-event, empty-event, collect-touches}

@@ -11,7 +11,8 @@ use lib.ListN.{set}
 use Rattle.laws.proofs.Tests.{by-cases}
 use Rattle.rows.specs.declared.Input.{Input}
 use Rattle.rows.specs.declared.Relay.{Relay}
-use Rattle.rows.specs.Places.{Board, isChannel, isRelay, inputAt, relayAt, putInput, putRelay, clockSet, onRows, inputPlace, relayPlace, firstInput, firstRelay, firstOuter, firstLine, clockRow}
+use Rattle.rows.specs.Places.{Board, isChannel, isRelay, inputAt, relayAt, putInput, putRelay, clockSet}
+use Rattle.rows.specs.Places.{onRows, inputPlace, relayPlace, firstInput, firstRelay, firstOuter, firstLine, clockRow}
 use Rattle.rows.proofs.Channel.{in-range, relay-range}
 use Rattle.devices.specs.declared.Device.{Device}
 use Rattle.devices.specs.declared.Device.the-variants.{Din, Rout, Unknown}

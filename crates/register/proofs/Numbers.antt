@@ -135,7 +135,8 @@ module _ (p : Board) where
   unfolding obeyed
   followed-judged c s =
       monitor-or
-      (λ order. Judged p (obeyed c s order p) → Judged p (followedBy (ifWanted (followsIt order (hasModule p)) (externalReply p)) (sealing (obeyed c s order p))))
+      (λ order. Judged p (obeyed c s order p)
+      → Judged p (followedBy (ifWanted (followsIt order (hasModule p)) (externalReply p)) (sealing (obeyed c s order p))))
       (λ j. serves refl refl)
       (λ order none j. rw (none (hasModule p)) (unfollowed (obeyed c s order p) j))
 

@@ -163,7 +163,10 @@ marked-stays moved b =
     let f : ℕ → List ℕ → List ℕ = λ _. markedRow (moved .inner) (hasModule b) in
     by-cases (anyMoved moved)
     (λ t. rw t
-    (record { at = by-rows (withMarks false false) b _ (λ d l. rows-same-by unmarked firstLine 4 (linePlace d) f b (λ k. mark-alone (moved .inner) (hasModule b))) }))
+    (record {
+      at = by-rows (withMarks false false) b _ (λ d l. rows-same-by unmarked firstLine 4 (linePlace d) f b
+          (λ k. mark-alone (moved .inner) (hasModule b)));
+    }))
     (λ n. rw n (same b))
 
 -- the marks of the External Monitor message, cleared
@@ -179,7 +182,8 @@ clear-alone (a ∷ b ∷ c ∷ d ∷ e ∷ f ∷ row) = refl
 cleared-stays : (b : Board) → Unmarked b (externalCleared b)
 unfolding externalCleared
 cleared-stays b =
-    record { at = by-rows (withMarks false false) b _ (λ d l. rows-same-by unmarked firstLine 4 (linePlace d) (λ _ row. set row externalWord 0) b (λ k. clear-alone)) }
+    let f : ℕ → List ℕ → List ℕ = λ _ row. set row externalWord 0 in
+    record { at = by-rows (withMarks false false) b _ (λ d l. rows-same-by unmarked firstLine 4 (linePlace d) f b (λ k. clear-alone)) }
 
 -- a change, and the marks that follow
 follows : (changed : Moved) (b b′ : Board) → Unmarked b b′ → Unmarked b (marked changed b′)

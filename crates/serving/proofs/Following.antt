@@ -11,7 +11,9 @@ use lib.ListN.{length}
 use Rattle.laws.specs.Put.{Wrote}
 use Rattle.laws.proofs.Put.{then, length-put}
 use Rattle.judges.specs.declared.Order.{Order}
-use Rattle.judges.specs.declared.Order.the-variants.{Refused, Clock, Monitor, Usage, MonitorOff, MonitorOn, SetClock, Close, Open, Toggle, ClearCount, ClearInputUsage, ClearRelayUsage, Block, PulseRelay, PulseBlock, Read, Write, Enumerate}
+use Rattle.judges.specs.declared.Order.the-variants.{Refused, Clock, Monitor, Usage, MonitorOff, MonitorOn, SetClock, Close, Open}
+use Rattle.judges.specs.declared.Order.the-variants.{Toggle, ClearCount, ClearInputUsage, ClearRelayUsage, Block}
+use Rattle.judges.specs.declared.Order.the-variants.{PulseRelay, PulseBlock, Read, Write, Enumerate}
 use Rattle.rows.specs.Places.{Board}
 use Rattle.modules.specs.Modules.{hasModule}
 use Rattle.readings.specs.Readings.{externalReply, externalRoom}
@@ -71,7 +73,8 @@ unfolding obeyed followsIt
 followed c s order p h {more} {b} {l} {o} {o′} {r} {end} room m e w =
     monitor-or
     (λ order. more ≡ followsIt order (hasModule p) → Does (sealing (obeyed c s order p)) b l o r
-    → Does (followedBy (ifWanted (followsIt order (hasModule p)) (externalReply p)) (sealing (obeyed c s order p))) b l o′ (servedAt (r .answer) (r .place) end))
+    → Does (followedBy (ifWanted (followsIt order (hasModule p)) (externalReply p)) (sealing (obeyed c s order p))) b l o′
+    (servedAt (r .answer) (r .place) end))
     (λ m e. rw (← m) (behind (sealing (obeyed c s Monitor p)) (externalReply p) (fits Monitor) e (rw (e .board) at w)))
     (λ order none m e. rw (none (hasModule p)) (rw (m ∙ none (hasModule p)) at (behind (sealing (obeyed c s order p)) (externalReply b) (fits order) e w)))
     order m e

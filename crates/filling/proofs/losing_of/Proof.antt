@@ -18,7 +18,9 @@ losing-of-spec =
     (λ c κs. search needs)
     (λ c. let q = c .before .before in
     let f = q .before .before in
-    rw (le-ltb _ _ (f .before .if1 .left), sym (f .is-filled .ensures) ∙ not-false _ (q .before .if2 .left), sym (q .queue-of .ensures)) (omega (arith, c .if3 .taken)))
+    rw (le-ltb _ _ (f .before .if1 .left), sym (f .is-filled .ensures) ∙ not-false _ (q .before .if2 .left), sym (q .queue-of .ensures))
+    (omega (arith, c .if3 .taken)))
     (λ c. let q = c .before .before in
     let f = q .before .before in
-    rw (le-ltb _ _ (f .before .if1 .left), sym (f .is-filled .ensures) ∙ not-false _ (q .before .if2 .left), sym (q .queue-of .ensures)) (omega (arith, c .if3 .left))))
+    rw (le-ltb _ _ (f .before .if1 .left), sym (f .is-filled .ensures) ∙ not-false _ (q .before .if2 .left), sym (q .queue-of .ensures))
+    (omega (arith, c .if3 .left))))

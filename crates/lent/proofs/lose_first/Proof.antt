@@ -21,9 +21,11 @@ use prog.Wp.{Heap, Env, Out, Calls, Loops, Wp, WpFn, Tables, afterSeq, afterBloc
 use ghost.Atoms.{Atoms}
 use contract.Monad.{Fun}
 use contract.Running.{givenOf, tables, tablesOf}
-use types.Kit.{Given, Item, Sq, runs, anyQ, atRet, ‵, raw, _⊛_, ⋆, _$_, _∵_, !, qed, by, move, keep, use2, split, join, rewrite, fsplit, fjoin, feqL, feqI, suffices, frame, done}
+use types.Kit.{Given, Item, Sq, runs, anyQ, atRet, ‵, raw, _⊛_, ⋆, _$_, _∵_, !, qed}
+use types.Kit.{by, move, keep, use2, split, join, rewrite, fsplit, fjoin, feqL, feqI, suffices, frame, done}
 use types.Part.{whole, sub, look-in, agg}
-use types.Run.{look, init, store, forget, stop, hop, fld, from, load, lit, unit-lit, of-opd, addr, bin, and-then, no-more, assigns, assigns-last, land, first, blocks, branches, skips, jumps, loops, again, Below, exec, returns, enter, alloc1, alloc0, params1, pass1, pass0, free1, free0}
+use types.Run.{look, init, store, forget, stop, hop, fld, from, load, lit, unit-lit, of-opd, addr, bin, and-then, no-more, assigns, assigns-last}
+use types.Run.{land, first, blocks, branches, skips, jumps, loops, again, Below, exec, returns, enter, alloc1, alloc0, params1, pass1, pass0, free1, free0}
 use sound.WpLaws.{FmC, fmOf, WpFn-mono}
 use denote.RattleType.{owns}
 use denote.Laws.{Is}

@@ -9,7 +9,8 @@ use Rattle.modules.proofs.Outputs.{outputs-count, outputs-few}
 use Rattle.modules.proofs.output_count.Statement.{statement}
 use Rattle.modules.proofs.output_count.Tie as tie
 
-sum : (c : tie.After-four-if2) → c .before .before .four-if .result + c .four-if2 .result ≡ length (outputs (c .before .before .before .before .args .board .now))
+sum : (c : tie.After-four-if2)
+    → c .before .before .four-if .result + c .four-if2 .result ≡ length (outputs (c .before .before .before .before .args .board .now))
 sum c =
     let o = c .before .before in
     rw (outputs-count, o .four-if .ensures, o .before .is-filled .ensures, c .four-if2 .ensures, c .before .is-filled2 .ensures)

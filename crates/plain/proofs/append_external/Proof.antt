@@ -51,7 +51,8 @@ append-external-spec =
     let w = content m in
     let a = m .before .before .before .before .before .args in
     let b = length-external (a .board .now) in
-    (omega (arith, w .0, b), omega (arith, w .0, b, room (m .before .before), ap length (w .1), length-put (a .at + 5) (externalReply (a .board .now)) (a .reply .now))))
+    let n = length-put (a .at + 5) (externalReply (a .board .now)) (a .reply .now) in
+    (omega (arith, w .0, b), omega (arith, w .0, b, room (m .before .before), ap length (w .1), n)))
     (λ c. search needs)
     (λ c. let s = c .before .before in
     let m = s .before .before .before .before in
@@ -59,7 +60,8 @@ append-external-spec =
     let a = t .before .before .before .args in
     let l = a .reply .now in
     let w = content m in
-    let f = framed (a .at) _ _ (externalReply (a .board .now)) l _ _ (omega (arith, room t, length-external (a .board .now))) (w .1) (w .0) (s .seal-at .ensures .0)
+    let f = framed (a .at) _ _ (externalReply (a .board .now)) l _ _ (omega (arith, room t, length-external (a .board .now))) (w .1) (w .0)
+    (s .seal-at .ensures .0)
     (s .seal-at .ensures .1) in
     let y = sym (t .before .has-room .ensures) ∙ t .if1 .taken in
     record { bytes = f .bytes ∙ rw y; place = f .place ∙ rw y })

@@ -23,7 +23,8 @@ use Rattle.readings.proofs.write_external.Tie as tie
 states : (t : Board) → rows (λ k. relayRow (relayAt k t)) (outputs t) ≡ rows (presentState t) secondDeck
 states t = rows-present (λ k. relayRow (relayAt k t)) t secondDeck
 
-whole : (t : Board) → (bytesOf 1 2 ++ bytesOf 1 0 ++ bytesOf 1 (length (outputs t)) ++ rows (presentState t) secondDeck) ++ bytesOf 8 (clockOf t) ≡ externalReply t
+whole : (t : Board)
+    → (bytesOf 1 2 ++ bytesOf 1 0 ++ bytesOf 1 (length (outputs t)) ++ rows (presentState t) secondDeck) ++ bytesOf 8 (clockOf t) ≡ externalReply t
 unfolding externalReply
 whole t = rw (states t)
 
@@ -49,7 +50,8 @@ written c =
     let s = c .before .before .before .before .before in
     let w = head s in
     let b = s .before .before .before in
-    then w (rw (c .before .clock .ensures) at (stored (omega (arith, b .if1 .left, kept w, w .place, head-length (b .before .before .args .board .now))) (c .put .ensures)))
+    let n = head-length (b .before .before .args .board .now) in
+    then w (rw (c .before .clock .ensures) at (stored (omega (arith, b .if1 .left, kept w, w .place, n)) (c .put .ensures)))
 
 pub write-external-spec : {M : Type 1} → statement M
 write-external-spec =

@@ -11,7 +11,9 @@ use types.Run.{OneOf}
 use denote.Enum.Declared.{tagOf}
 use Rattle.judges.proofs.Order.{the-type}
 use Rattle.judges.specs.declared.Order.{Order}
-use Rattle.judges.specs.declared.Order.the-variants.{Refused, Clock, Monitor, Usage, MonitorOff, MonitorOn, SetClock, Close, Open, Toggle, ClearCount, ClearInputUsage, ClearRelayUsage, Block, PulseRelay, PulseBlock, Read, Write, Enumerate}
+use Rattle.judges.specs.declared.Order.the-variants.{Refused, Clock, Monitor, Usage, MonitorOff, MonitorOn, SetClock, Close, Open}
+use Rattle.judges.specs.declared.Order.the-variants.{Toggle, ClearCount, ClearInputUsage, ClearRelayUsage, Block}
+use Rattle.judges.specs.declared.Order.the-variants.{PulseRelay, PulseBlock, Read, Write, Enumerate}
 use Rattle.serving.specs.Obeying.{followsIt}
 use borrow.Author.Needs.{needs}
 use Rattle.serving.proofs.follows.Statement.{statement}
