@@ -3,6 +3,7 @@
 
 ghost use mathlib.Core.Path.{_≡_};
 ghost use mathlib.Core.Bool.{_||_, cond};
+ghost use lib.Dec.{ltb};
 ghost use Rattle.rows.specs.Places.{relayAt, putRelay};
 ghost use Rattle.rows.specs.Held.{switched};
 ghost use Rattle.edits.specs.Edits.{inputEdited, relayEdited};
@@ -175,13 +176,21 @@ fn either(a: bool, b: bool) -> bool
     a || b
 }
 
-// Action 10, and a pulse: the masked relays take their state, the lowest bit relay 1.
+// How many relays a mask can reach: one of a byte, which is nearly every one, does not reach the second deck.
+fn reach_of(mask: u16) -> usize
+    ensures { λ r. ⌜ r ≡ cond (ltb mask 256) 8 16 ⌝ }
+{
+    if mask < 256 { 8 } else { 16 }
+}
+
+// Action 10, and a pulse: the masked relays take their state, the lowest bit relay 1. Relays that the mask cannot reach are not looked at.
 pub fn block(board: &mut [[u64; 8]; ROWS], mask: u16, state: u16) -> Changed
     ensures { λ r. ⌜ Makes (blockOf mask state (now (board .entry))) (now (board .exit)) r ⌝ }
 {
+    let reach = reach_of(mask);
     let mut inner = false;
     let mut outer = false;
-    for k in 0..16 {
+    for k in 0..reach {
         let moved = mask_relay(board, k + 1, edits::bit(mask, k), edits::bit(state, k));
         let deck = modules::moved_at(k + 1, moved);
         inner = either(inner, deck.inner);

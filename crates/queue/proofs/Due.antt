@@ -43,7 +43,7 @@ or-true : (a : Bool) → a || true ≡ true
 or-true true = refl
 or-true false = refl
 
-and-false : (a : Bool) → a && false ≡ false
+pub and-false : (a : Bool) → a && false ≡ false
 and-false true = refl
 and-false false = refl
 
@@ -55,7 +55,7 @@ any-one (suc n) k p h e =
     (λ t. rw (any-one n k p (ltb-true k n t) e))
     (λ f. let s : n ≡ k = omega (arith, ltb-false k n f) in rw (s, e) (or-true (anyBelow k p)))
 
-none-of : (n : ℕ) (p : ℕ → Bool) → ((k : ℕ) → k < n → p k ≡ false) → anyBelow n p ≡ false
+pub none-of : (n : ℕ) (p : ℕ → Bool) → ((k : ℕ) → k < n → p k ≡ false) → anyBelow n p ≡ false
 unfolding anyBelow
 none-of zero p f = refl
 none-of (suc n) p f = rw (none-of n p (λ k h. f k (omega arith)), f n (omega arith))
@@ -63,7 +63,7 @@ none-of (suc n) p f = rw (none-of n p (λ k h. f k (omega arith)), f n (omega ar
 -- ---- the marks
 
 -- what a change makes of a connection that watches: marks are set, and none is taken back
-abbrev noting : Bool → Bool → Line → Line
+abbrev pub noting : Bool → Bool → Line → Line
 noting due external l = withMarks (cond due true (l .due)) (cond external true (l .external)) l
 
 -- a connection's row, where something changed
@@ -97,7 +97,7 @@ row-marked due external c b h =
     nothing : (due external : Bool) → lineIn [] ≡ lineIn (markedRow due external [])
     nothing due external = refl
 
-line-marked : (m : Moved) (c : ℕ) (b : Board) → c < 4
+pub line-marked : (m : Moved) (c : ℕ) (b : Board) → c < 4
     → lineAt c (marked m b) ≡ cond (anyMoved m && watches (lineAt c b)) (noting (m .inner) (hasModule b) (lineAt c b)) (lineAt c b)
 unfolding marked lineAt
 line-marked m c b h =
@@ -110,7 +110,7 @@ abbrev moves : ℕ → ℕ → Board → Bool
 moves mask states b = anyMoved (blockMoved mask states b)
 
 -- a switching leaves the places
-module-blocked : (mask states : ℕ) (b : Board) → hasModule (onRows firstRelay 16 (blockedRow mask states) b) ≡ hasModule b
+pub module-blocked : (mask states : ℕ) (b : Board) → hasModule (onRows firstRelay 16 (blockedRow mask states) b) ≡ hasModule b
 unfolding filled
 module-blocked mask states b =
     rw (beyond firstRelay 16 (placeRow 1) (blockedRow mask states) b (omega arith), beyond firstRelay 16 (placeRow 2) (blockedRow mask states) b (omega arith))
@@ -125,7 +125,7 @@ line-switched mask states c b h =
     rw (e, module-blocked mask states b) at (line-marked (blockMoved mask states b) c z h)
 
 -- and so do the marks
-module-marked : (m : Moved) (b : Board) → hasModule (marked m b) ≡ hasModule b
+pub module-marked : (m : Moved) (b : Board) → hasModule (marked m b) ≡ hasModule b
 unfolding filled marked
 module-marked m b =
     let f : ℕ → List ℕ → List ℕ = λ _. markedRow (m .inner) (hasModule b) in

@@ -71,12 +71,12 @@ kept (suc from) n j f (row ∷ b) s = let e : suc from + j ≡ suc (from + j) = 
 pub seat : (k : ℕ) → relayPlace (k + 1) ≡ firstRelay + k
 seat k = omega arith
 
-relay-of : (k : ℕ) → k < 16 → (b : Board) → relayAt (k + 1) b ≡ relayIn (rowAt (relayPlace (k + 1)) b)
+pub relay-of : (k : ℕ) → k < 16 → (b : Board) → relayAt (k + 1) b ≡ relayIn (rowAt (relayPlace (k + 1)) b)
 unfolding relayAt
 relay-of k h b = rw (relay k h)
 
 -- the marks are not in the relays' rows, nor in any before the connections'
-before-lines : (moved : Moved) (j : ℕ) (b : Board) → j < firstLine → rowAt j (marked moved b) ≡ rowAt j b
+pub before-lines : (moved : Moved) (j : ℕ) (b : Board) → j < firstLine → rowAt j (marked moved b) ≡ rowAt j b
 unfolding marked
 before-lines moved j b h = by-cases (anyMoved moved) (λ t. rw t (before firstLine 4 j (λ _. markedRow (moved .inner) (hasModule b)) b h)) (λ f. rw f)
 

@@ -219,7 +219,7 @@ set-other row j p q k (suc n) f =
     )
 
 -- the last of one more
-snoc : (row : List Pulse) (q : Queue) (k n : ℕ) → ranked row q k (suc n) ≡ ranked row q k n ++ (pulseAt row (place q (k + n)) ∷ [])
+pub snoc : (row : List Pulse) (q : Queue) (k n : ℕ) → ranked row q k (suc n) ≡ ranked row q k n ++ (pulseAt row (place q (k + n)) ∷ [])
 unfolding ranked
 snoc row q k zero = let z : k + 0 ≡ k = omega arith in rw z
 snoc row q k (suc n) =
@@ -234,7 +234,7 @@ ranked-length row q k (suc n) = ap suc (ranked-length row q (suc k) n)
 pub waiting-length : (row : List Pulse) (b : Board) → length (waiting row b) ≡ standing (queueOf b)
 waiting-length row b = ranked-length row (queueOf b) 0 (standing (queueOf b))
 
-behind-last : (row : List Pulse) (p : Pulse) (q : Queue) (n : ℕ) → n < 31 → 31 ≤ length row
+pub behind-last : (row : List Pulse) (p : Pulse) (q : Queue) (n : ℕ) → n < 31 → 31 ≤ length row
     → ranked (set row (place q n) p) q 0 (suc n) ≡ ranked row q 0 n ++ (p ∷ [])
 behind-last row p q n h l =
     let z : 0 + n ≡ n = omega arith in

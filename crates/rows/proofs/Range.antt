@@ -2,14 +2,16 @@
 --     Ranging     its invariant: of n rows from `from` on, k are done;   range-start, range-turn, range-done
 --     row-waits   the row whose turn it is has not been changed yet
 --     beyond      a row behind them stays
+--     no-further  where those behind the first n are left as they are, so many more are none
 --     rows-flow   time that passes for each of these rows flows
 use mathlib.Core.Path.{_≡_, refl, sym, ap, _∙_}
 use mathlib.Core.List.{List, [], _∷_}
 use Prim.Native.Nat.{ℕ, zero, suc, _+_, _≤_, _<_, zero-le}
-use native.Mathlib.Nat.{le-antisymm, zero-add, le-refl, not-suc-le-zero, le-of-suc-le-suc}
+use native.Mathlib.Nat.{le-antisymm, add-zero, zero-add, le-refl, not-suc-le-zero, le-of-suc-le-suc}
 use native.Mathlib.Omega.{arith}
 use native.Mathlib.Numerals.{add-one}
 use lib.ListN.{length, getD, set}
+use lib.Seq.{set-getD}
 use Rattle.laws.proofs.Flow.{Flow}
 use Rattle.rows.specs.Places.{Board, rowAt, onRows}
 
@@ -39,7 +41,7 @@ one-more-first k f [] = refl
 one-more-first zero f (row ∷ b) = ap (λ (l : Board). f 0 row ∷ l) (sym (none-yet 0 (λ k. f (suc k)) b))
 one-more-first (suc k) f (row ∷ b) = ap (λ (l : Board). f 0 row ∷ l) (one-more-first k (λ k. f (suc k)) b)
 
-one-more : (from k : ℕ) (f : ℕ → List ℕ → List ℕ) (b : Board)
+pub one-more : (from k : ℕ) (f : ℕ → List ℕ → List ℕ) (b : Board)
     → set (onRows from k f b) (from + k) (f k (getD (onRows from k f b) (from + k) [])) ≡ onRows from (suc k) f b
 unfolding onRows
 one-more from k f [] = refl
@@ -70,6 +72,17 @@ module _ {from n : ℕ} {f : ℕ → List ℕ → List ℕ} {b₀ : Board} where
 
   pub range-done : {b : Board} {k : ℕ} → Ranging from n f b₀ b k → n ≤ k → b ≡ onRows from n f b₀
   range-done {b} {k} m h = m .so-far ∙ ap (λ (j : ℕ). onRows from j f b₀) (le-antisymm (m .in-range) h)
+
+-- rows behind the first n that are all left as they are
+pub no-further : (from n m : ℕ) (f : ℕ → List ℕ → List ℕ) (b : Board) → ((k : ℕ) (row : List ℕ) → n ≤ k → f k row ≡ row)
+    → onRows from (n + m) f b ≡ onRows from n f b
+no-further from n zero f b h = ap (λ (j : ℕ). onRows from j f b) (add-zero n)
+no-further from n (suc m) f b h =
+    let e : n + suc m ≡ suc (n + m) = omega arith in
+    rw e
+    (sym (one-more from (n + m) f b)
+    ∙ ap (set (onRows from (n + m) f b) (from + (n + m))) (h (n + m) (getD (onRows from (n + m) f b) (from + (n + m)) []) (omega arith))
+    ∙ set-getD (onRows from (n + m) f b) (from + (n + m)) [] ∙ no-further from n m f b h)
 
 -- ---- what onRows leaves, and what it does to time
 
