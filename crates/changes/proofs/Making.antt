@@ -63,7 +63,8 @@ reach-few mask reach e = by-cases (ltb mask 256) (λ t. rw (e, t) (omega arith))
 
 module _ (mask state : ℕ) (b : Board) where
   -- as far as a mask reaches is as far as all relays
-  pub reached-rows : (reach : ℕ) → reach ≡ cond (ltb mask 256) 8 16 → onRows firstRelay reach (blockedRow mask state) b ≡ onRows firstRelay 16 (blockedRow mask state) b
+  pub reached-rows : (reach : ℕ) → reach ≡ cond (ltb mask 256) 8 16
+      → onRows firstRelay reach (blockedRow mask state) b ≡ onRows firstRelay 16 (blockedRow mask state) b
   unfolding blockedRow
   reached-rows reach e =
       by-cases (ltb mask 256)
