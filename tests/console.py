@@ -86,7 +86,7 @@ def frame(content):
 
 def any_line(draw):
     """A line of some kind: commands, blocks, long writes, halves, refused frames, bytes at random, and lines that feed nothing."""
-    command = frame(bytes([10, draw.randint(1, 3)]) + field(draw.randint(0, 9), 2))
+    command = frame(bytes([10, draw.randint(1, 3)]) + field(draw.randint(0, 17), 2))
     block = frame(bytes([10, 10, draw.randrange(256), draw.randrange(256)]))
     entry = field(0x0101FF + 256 * draw.randrange(8), 8) + field(2, 2) + bytes([1, draw.randrange(2)])
     unknown = field(999, 8)
@@ -128,7 +128,7 @@ def main():
         ("01's example byte by byte", run_byte_by_byte, EXAMPLE, ANSWERS),
         ("01's example byte by byte without its last newline", run_byte_by_byte, EXAMPLE[:-1], ANSWERS),
         ("nothing", run, b"", b""),
-        ("an empty line", run, b"\n", b"FF00\n"),
+        ("an empty line", run, b"\n", b"FF0000\n"),
         ("%d lines through a pipe" % len(lines), run, much, answers),
         ("%d lines from a file" % len(lines), run_from_file, much, answers),
     ]

@@ -3,13 +3,14 @@
 
 ghost use mathlib.Core.Path.{_≡_};
 ghost use mathlib.Core.Bool.{_||_, cond};
-ghost use lib.Dec.{ltb};
-ghost use Rattle.rows.specs.Places.{relayAt, putRelay};
+ghost use Prim.Native.Nat.{_+_, _≤_};
+ghost use Rattle.laws.specs.Each.{anyBelow};
+ghost use Rattle.rows.specs.Places.{relayAt, putRelay, onRows, firstRelay};
 ghost use Rattle.rows.specs.Held.{switched};
 ghost use Rattle.edits.specs.Edits.{inputEdited, relayEdited};
 ghost use Rattle.changes.specs.Answers.{Makes, noChange, sameAgain, differ, onInput, onRelay};
 ghost use Rattle.changes.specs.Levels.{hasLevel, levelOf};
-ghost use Rattle.changes.specs.Commands.{closeRelay, openRelay, toggleRelay, clearCount, clearInputUsage, clearRelayUsage, onPresent, masked, blockOf};
+ghost use Rattle.changes.specs.Commands.{closeRelay, openRelay, toggleRelay, clearCount, clearInputUsage, clearRelayUsage, onPresent, masked, moves, blockedRow, blockOf};
 ghost use Rattle.changes.specs.Entries.{writeInput, writeRelay};
 use edits::InputEdit;
 use edits::RelayEdit;
@@ -176,26 +177,43 @@ fn either(a: bool, b: bool) -> bool
     a || b
 }
 
-// How many relays a mask can reach: one of a byte, which is nearly every one, does not reach the second deck.
-fn reach_of(mask: u16) -> usize
-    ensures { λ r. ⌜ r ≡ cond (ltb mask 256) 8 16 ⌝ }
+// The relays of one deck, the eight behind relay `first`, take their state where they are masked, by the lowest eight bits; whether one of them
+// changed.
+fn block_deck(board: &mut [[u64; 8]; ROWS], first: usize, mask: u16, state: u16) -> bool
+    requires { ⌜ first ≤ 8 ⌝ }
+    ensures { λ r. ⌜ now (board .exit) ≡ onRows (first + firstRelay) 8 (blockedRow mask state) (now (board .entry)) ⌝ }
+    ensures { λ r. ⌜ r ≡ anyBelow 8 (λ k. moves mask state k (relayAt (first + k + 1) (now (board .entry)))) ⌝ }
 {
-    if mask < 256 { 8 } else { 16 }
+    let mut changed = false;
+    for k in 0..8 {
+        let moved = mask_relay(
+            board,
+            first + k + 1,
+            edits::bit(mask, k),
+            edits::bit(state, k),
+        );
+        changed = either(changed, moved);
+    }
+    changed
 }
 
-// Action 10, and a pulse: the masked relays take their state, the lowest bit relay 1. Relays that the mask cannot reach are not looked at.
+// The second deck, by the bits above those eight. A mask of a byte, which is nearly every one, does not reach it.
+fn block_outer(board: &mut [[u64; 8]; ROWS], mask: u16, state: u16) -> bool
+    ensures { λ r. ⌜ now (board .exit) ≡ onRows (8 + firstRelay) 8 (λ k. blockedRow mask state (8 + k)) (now (board .entry)) ⌝ }
+    ensures { λ r. ⌜ r ≡ anyBelow 8 (λ k. moves mask state (8 + k) (relayAt (8 + k + 1) (now (board .entry)))) ⌝ }
+{
+    if mask < 256 {
+        return false;
+    }
+    block_deck(board, 8, mask / 256, state / 256)
+}
+
+// Action 10, and a pulse: the masked relays take their state, the lowest bit relay 1.
 pub fn block(board: &mut [[u64; 8]; ROWS], mask: u16, state: u16) -> Changed
     ensures { λ r. ⌜ Makes (blockOf mask state (now (board .entry))) (now (board .exit)) r ⌝ }
 {
-    let reach = reach_of(mask);
-    let mut inner = false;
-    let mut outer = false;
-    for k in 0..reach {
-        let moved = mask_relay(board, k + 1, edits::bit(mask, k), edits::bit(state, k));
-        let deck = modules::moved_at(k + 1, moved);
-        inner = either(inner, deck.inner);
-        outer = either(outer, deck.outer);
-    }
+    let inner = block_deck(board, 0, mask, state);
+    let outer = block_outer(board, mask, state);
     Changed {
         answer: numbers::SERVED,
         changed: Moved { inner, outer },

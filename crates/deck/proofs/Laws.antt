@@ -9,7 +9,7 @@
 --     filling-marks-nothing   02, M-102, 6: and a filling leaves the connections
 --     again                   02, M-102, 1: filling a place that is filled changes nothing, nor does emptying one that is empty
 use mathlib.Core.Path.{_≡_, refl, sym, ap, _∙_}
-use mathlib.Core.Bool.{Bool, true, false, cond, not, _&&_}
+use mathlib.Core.Bool.{Bool, true, false, cond, not, _&&_, and-true, and-false}
 use mathlib.Core.List.{List, [], _∷_, map, map-append}
 use Prim.Native.Nat.{ℕ, zero, suc, _+_, _*_, _/_, _%_, _^_, _<_, _≤_, zero-le}
 use native.Mathlib.Nat.{zero-div}
@@ -23,11 +23,11 @@ use Rattle.laws.proofs.Tests.{by-cases}
 use Rattle.rows.specs.declared.Queue.{Queue}
 use Rattle.rows.specs.declared.Line.{Line}
 use Rattle.rows.specs.Rows.{word, isOn, relayIn, queueIn, externalWord, dueWord}
-use Rattle.rows.specs.Places.{Board, isChannel, rowAt, relayAt, lineAt, firstRelay, relayPlace, firstLine, linePlace, queueRow, queueOf, firstPlace, onRows}
+use Rattle.rows.specs.Places.{Board, rowAt, relayAt, lineAt, firstRelay, relayPlace, firstLine, linePlace, queueRow, queueOf, firstPlace, onRows}
 use Rattle.rows.proofs.Range.{beyond, set-behind}
 use Rattle.modules.specs.declared.Moved.{Moved}
-use Rattle.modules.specs.Modules.{isPlace, filled, placeRow, placeSet, hasModule, movedAt}
-use Rattle.changes.specs.Commands.{masked, blockMoved, blockedRow, blockOf}
+use Rattle.modules.specs.Modules.{isPlace, filled, placeRow, placeSet, hasModule}
+use Rattle.changes.specs.Commands.{masked, moves, blockMoved, blockedRow, blockOf}
 use Rattle.changes.proofs.Making.{differ-same}
 use Rattle.marks.specs.Marks.{markedRow, watches, anyMoved, marked, externalCleared}
 use Rattle.ring.specs.declared.Pulse.{Pulse}
@@ -37,14 +37,11 @@ use Rattle.pulses.proofs.Passing.{no-row}
 use Rattle.queue.specs.Listed.{ranked, waiting}
 use Rattle.queue.proofs.Ring.{apart, snoc, behind-last}
 use Rattle.queue.proofs.Relays.{rows-length, before, among, kept, seat, relay-of, before-lines, unmasked}
-use Rattle.queue.proofs.Due.{and-false, none-of, noting, line-marked, module-blocked, module-marked}
+use Rattle.laws.proofs.Each.{none-of}
+use Rattle.queue.proofs.Due.{noting, line-marked, module-blocked, module-marked}
 use Rattle.filling.specs.Filling.{moduleMask, opened, filledAt, lastGone, emptiedAt, without, lost, losing, rowWithout, rowEmptied}
 
 -- ---- the bits of a module
-
-and-true : (a : Bool) → a && true ≡ a
-and-true true = refl
-and-true false = refl
 
 -- something of each of four bits from bit k on, and of each of eight
 abbrev fourFrom : ℕ → (ℕ → Type 0) → Type 0
@@ -239,11 +236,9 @@ first-deck p k h =
 
 -- so their opening is no change there
 inner-still : (p : ℕ) (b : Board) → blockMoved (moduleMask p) 0 b .inner ≡ false
-unfolding movedAt masked
+unfolding masked
 inner-still p b =
-    none-of 16 _ (λ k h. by-cases (ltb k 8)
-    (λ t. rw (first-deck p k (ltb-true k 8 t), differ-same (relayAt (k + 1) b .closed)) (and-false (isChannel (k + 1))))
-    (λ f. let e : isChannel (k + 1) ≡ false = rw (lt-leb (k + 1) 8 (omega (arith, ltb-false k 8 f))) (and-false (leb 1 (k + 1))) in rw e))
+    none-of 8 (λ k. moves (moduleMask p) 0 k (relayAt (k + 1) b)) (λ k h. rw (first-deck p k h) (differ-same (relayAt (k + 1) b .closed)))
 
 -- a connection whose row is the same
 same-line : (c : ℕ) (z b : Board) → rowAt (linePlace c) z ≡ rowAt (linePlace c) b → lineAt c z ≡ lineAt c b

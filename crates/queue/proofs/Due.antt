@@ -5,30 +5,30 @@
 --     next-change            02, M-100, 3: and behind a beginning that did, also where the end before it changed nothing
 --     no-change              02, M-100, 3: where no state changes, the connections are as they were
 use mathlib.Core.Path.{_≡_, refl, sym, ap, _∙_}
-use mathlib.Core.Bool.{Bool, true, false, true≢false, cond, not, _&&_, _||_}
+use mathlib.Core.Bool.{Bool, true, false, true≢false, cond, _&&_, or-true}
 use mathlib.Core.List.{List, []}
-use Prim.Native.Nat.{ℕ, zero, suc, _+_, _%_, _^_, _<_, _≤_}
+use Prim.Native.Nat.{ℕ, zero, suc, _+_, _-_, _%_, _^_, _<_, _≤_}
 use native.Mathlib.Omega.{arith}
 use lib.Dec.{ltb}
 use lib.ListN.{length}
 use lib.Seq.{getD-set-other}
 use borrow.Author.Tests.{lt-ltb, ltb-true, ltb-false}
 use Rattle.laws.specs.Each.{anyBelow}
+use Rattle.laws.proofs.Each.{none-of}
 use Rattle.laws.proofs.Tests.{by-cases}
 use Rattle.rows.specs.declared.Queue.{Queue}
 use Rattle.rows.specs.declared.Line.{Line}
 use Rattle.rows.specs.declared.Relay.{Relay}
 use Rattle.rows.specs.Rows.{lineIn, dueWords, relayIn, blankRelay}
-use Rattle.rows.specs.Places.{Board, isChannel, isRelay, rowAt, relayAt, lineAt, firstRelay}
+use Rattle.rows.specs.Places.{Board, isRelay, rowAt, relayAt, lineAt, firstRelay}
 use Rattle.rows.specs.Places.{relayPlace, clockRow, firstLine, linePlace, queueRow, queueOf, putQueue, onRows}
-use Rattle.rows.proofs.Channel.{channel}
 use Rattle.rows.proofs.Range.{beyond}
 use Rattle.laws.specs.Bits.{bitOf}
-use Rattle.changes.specs.Commands.{masked, blocked, blockMoves, blockMoved, blockedRow, blockOf}
+use Rattle.changes.specs.Commands.{masked, blocked, moves, blockMoved, blockedRow, blockOf}
 use Rattle.changes.specs.Answers.{differ}
 use Rattle.changes.proofs.Making.{differ-same}
 use Rattle.modules.specs.declared.Moved.{Moved}
-use Rattle.modules.specs.Modules.{filled, placeRow, hasModule, movedAt}
+use Rattle.modules.specs.Modules.{filled, placeRow, hasModule}
 use Rattle.marks.specs.Marks.{withMarks, watches, markedRow, anyMoved, marked}
 use Rattle.ring.specs.declared.Pulse.{Pulse}
 use Rattle.pulses.specs.Pulses.{statesOf, switched, beginning, begun, ended, turned}
@@ -39,14 +39,6 @@ use Rattle.queue.proofs.Relays.{rows-length, among, switched-masked, sw
 
 -- ---- any of them
 
-or-true : (a : Bool) → a || true ≡ true
-or-true true = refl
-or-true false = refl
-
-pub and-false : (a : Bool) → a && false ≡ false
-and-false true = refl
-and-false false = refl
-
 any-one : (n k : ℕ) (p : ℕ → Bool) → k < n → p k ≡ true → anyBelow n p ≡ true
 unfolding anyBelow
 any-one zero k p h e = absurd (omega arith)
@@ -54,11 +46,6 @@ any-one (suc n) k p h e =
     by-cases (ltb k n)
     (λ t. rw (any-one n k p (ltb-true k n t) e))
     (λ f. let s : n ≡ k = omega (arith, ltb-false k n f) in rw (s, e) (or-true (anyBelow k p)))
-
-pub none-of : (n : ℕ) (p : ℕ → Bool) → ((k : ℕ) → k < n → p k ≡ false) → anyBelow n p ≡ false
-unfolding anyBelow
-none-of zero p f = refl
-none-of (suc n) p f = rw (none-of n p (λ k h. f k (omega arith)), f n (omega arith))
 
 -- ---- the marks
 
@@ -106,8 +93,8 @@ line-marked m c b h =
     (λ f. rw f)
 
 -- whether a switching changes something
-abbrev moves : ℕ → ℕ → Board → Bool
-moves mask states b = anyMoved (blockMoved mask states b)
+abbrev changing : ℕ → ℕ → Board → Bool
+changing mask states b = anyMoved (blockMoved mask states b)
 
 -- a switching leaves the places
 pub module-blocked : (mask states : ℕ) (b : Board) → hasModule (onRows firstRelay 16 (blockedRow mask states) b) ≡ hasModule b
@@ -117,7 +104,7 @@ module-blocked mask states b =
 
 line-switched : (mask states c : ℕ) (b : Board) → c < 4
     → lineAt c (switched mask states b)
-    ≡ cond (moves mask states b && watches (lineAt c b)) (noting (blockMoved mask states b .inner) (hasModule b) (lineAt c b)) (lineAt c b)
+    ≡ cond (changing mask states b && watches (lineAt c b)) (noting (blockMoved mask states b .inner) (hasModule b) (lineAt c b)) (lineAt c b)
 unfolding switched blockOf lineAt
 line-switched mask states c b h =
     let z : Board = onRows firstRelay 16 (blockedRow mask states) b in
@@ -170,29 +157,23 @@ relay-blocked mask states k b h l =
     same-row k b z e = ap (λ (row : List ℕ). cond (isRelay (k + 1)) (relayIn row) blankRelay) e
 
 -- a relay that moves does so on one of the decks, and one that does not on none
-module _ (n : ℕ) (moved : ℕ → Bool) where
+module _ (moving : ℕ → Bool) where
   abbrev onDecks : Moved
-  onDecks = record { inner = anyBelow n (λ k. movedAt (k + 1) (moved k) .inner); outer = anyBelow n (λ k. movedAt (k + 1) (moved k) .outer) }
+  onDecks = record { inner = anyBelow 8 moving; outer = anyBelow 8 (λ k. moving (8 + k)) }
 
-  moved-inner : (k : ℕ) → k < n → k < 8 → moved k ≡ true → onDecks .inner ≡ true
-  unfolding movedAt
-  moved-inner k h o m = any-one n k _ h (rw (channel k o, m))
+  moved-inner : (k : ℕ) → k < 8 → moving k ≡ true → onDecks .inner ≡ true
+  moved-inner k h m = any-one 8 k moving h m
 
-  moved-any : (k : ℕ) → k < n → moved k ≡ true → anyMoved onDecks ≡ true
-  unfolding movedAt
+  moved-any : (k : ℕ) → k < 16 → moving k ≡ true → anyMoved onDecks ≡ true
   moved-any k h m =
-      by-cases (isChannel (k + 1))
-      (λ t. let e : anyBelow n (λ j. isChannel (j + 1) && moved j) ≡ true = any-one n k _ h (rw (t, m)) in rw e)
-      (λ f. let e : anyBelow n (λ j. not (isChannel (j + 1)) && moved j) ≡ true = any-one n k _ h (rw (f, m)) in rw e (or-true (onDecks .inner)))
+      by-cases (ltb k 8)
+      (λ t. rw (moved-inner k (ltb-true k 8 t) m))
+      (λ f. let e : 8 + (k - 8) ≡ k = omega (arith, ltb-false k 8 f) in
+      let o : onDecks .outer ≡ true = any-one 8 (k - 8) (λ j. moving (8 + j)) (omega (arith, ltb-false k 8 f)) (rw e m) in rw o (or-true (onDecks .inner)))
 
-  moved-none : ((k : ℕ) → k < n → moved k ≡ false) → anyMoved onDecks ≡ false
-  unfolding movedAt
+  moved-none : ((k : ℕ) → k < 16 → moving k ≡ false) → anyMoved onDecks ≡ false
   moved-none f =
-      let e : anyBelow n (λ j. isChannel (j + 1) && moved j) ≡ false =
-      none-of n (λ j. isChannel (j + 1) && moved j) (λ k h. rw (f k h) (and-false (isChannel (k + 1)))) in
-      let o : anyBelow n (λ j. not (isChannel (j + 1)) && moved j) ≡ false =
-      none-of n (λ j. not (isChannel (j + 1)) && moved j) (λ k h. rw (f k h) (and-false (not (isChannel (k + 1))))) in
-      rw (e, o)
+      rw (none-of 8 moving (λ k h. f k (omega arith)), none-of 8 (λ k. moving (8 + k)) (λ k h. f (8 + k) (omega arith)))
 
 -- a switching of a board whose queue alone was stored before
 module _ (mask states : ℕ) (q : Queue) (b : Board) where
@@ -201,22 +182,22 @@ module _ (mask states : ℕ) (q : Queue) (b : Board) where
 
   -- whether the relay at place k moves
   abbrev movesAt : ℕ → Bool
-  movesAt k = differ (relayAt (k + 1) (putQueue q b) .closed) (blocked mask states k (relayAt (k + 1) (putQueue q b)) .closed)
+  movesAt k = moves mask states k (relayAt (k + 1) (putQueue q b))
 
   line-after : (c : ℕ) → c < 4
       → lineAt c after
-      ≡ cond (moves mask states (putQueue q b) && watches (lineAt c b)) (noting (blockMoved mask states (putQueue q b) .inner) (hasModule b) (lineAt c b))
+      ≡ cond (changing mask states (putQueue q b) && watches (lineAt c b)) (noting (blockMoved mask states (putQueue q b) .inner) (hasModule b) (lineAt c b))
       (lineAt c b)
   line-after c h = rw (line-put q c b h, module-put q b) at (line-switched mask states c (putQueue q b) h)
 
   told-kept : (c k : ℕ) (z : Board) → c < 4 → Told k z (lineAt c b) → Told k z (lineAt c after)
   told-kept c k z h e =
       rw (line-after c h)
-      (told-on (lineAt c b) k z (moves mask states (putQueue q b) && watches (lineAt c b)) (blockMoved mask states (putQueue q b) .inner) (hasModule b) e)
+      (told-on (lineAt c b) k z (changing mask states (putQueue q b) && watches (lineAt c b)) (blockMoved mask states (putQueue q b) .inner) (hasModule b) e)
 
   watches-kept : (c : ℕ) → c < 4 → watches (lineAt c after) ≡ watches (lineAt c b)
   watches-kept c h = ap watches (line-after c h)
-      ∙ watches-on (lineAt c b) (moves mask states (putQueue q b) && watches (lineAt c b)) (blockMoved mask states (putQueue q b) .inner) (hasModule b)
+      ∙ watches-on (lineAt c b) (changing mask states (putQueue q b) && watches (lineAt c b)) (blockMoved mask states (putQueue q b) .inner) (hasModule b)
 
   moved-is : (k : ℕ) → k < 16 → clockRow ≤ length b → moved (k + 1) b after ≡ movesAt k
   moved-is k h l = rw (relay-blocked mask states k (putQueue q b) h (rw (put-length q b) l), relay-put q k b h)
@@ -224,13 +205,13 @@ module _ (mask states : ℕ) (q : Queue) (b : Board) where
   told-after : (c k : ℕ) → c < 4 → k < 16 → clockRow ≤ length b → watches (lineAt c b) ≡ true → moved (k + 1) b after ≡ true → Told k b (lineAt c after)
   told-after c k h j l w m =
       let e : movesAt k ≡ true = sym (moved-is k j l) ∙ m in
-      let a : moves mask states (putQueue q b) ≡ true = moved-any 16 movesAt k j e in
+      let a : changing mask states (putQueue q b) ≡ true = moved-any movesAt k j e in
       rw (line-after c h, a, w)
-      (record { monitor = λ o. rw (moved-inner 16 movesAt k j o e); external = λ x. rw x })
+      (record { monitor = λ o. rw (moved-inner movesAt k o e); external = λ x. rw x })
 
   still-after : (c : ℕ) → c < 4 → clockRow ≤ length b → ((k : ℕ) → k < 16 → moved (k + 1) b after ≡ false) → lineAt c after ≡ lineAt c b
   still-after c h l f =
-      let a : moves mask states (putQueue q b) ≡ false = moved-none 16 movesAt (λ k j. sym (moved-is k j l) ∙ f k j) in
+      let a : changing mask states (putQueue q b) ≡ false = moved-none movesAt (λ k j. sym (moved-is k j l) ∙ f k j) in
       rw (line-after c h, a)
 
   module-after : hasModule after ≡ hasModule b

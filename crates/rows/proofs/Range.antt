@@ -2,7 +2,8 @@
 --     Ranging     its invariant: of n rows from `from` on, k are done;   range-start, range-turn, range-done
 --     row-waits   the row whose turn it is has not been changed yet
 --     beyond      a row behind them stays
---     no-further  where those behind the first n are left as they are, so many more are none
+--     one-by-two  the first n rows, and then so many more, are all of them
+--     none-moved  rows that are left as they are
 --     rows-flow   time that passes for each of these rows flows
 use mathlib.Core.Path.{_≡_, refl, sym, ap, _∙_}
 use mathlib.Core.List.{List, [], _∷_}
@@ -73,16 +74,21 @@ module _ {from n : ℕ} {f : ℕ → List ℕ → List ℕ} {b₀ : Board} where
   pub range-done : {b : Board} {k : ℕ} → Ranging from n f b₀ b k → n ≤ k → b ≡ onRows from n f b₀
   range-done {b} {k} m h = m .so-far ∙ ap (λ (j : ℕ). onRows from j f b₀) (le-antisymm (m .in-range) h)
 
--- rows behind the first n that are all left as they are
-pub no-further : (from n m : ℕ) (f : ℕ → List ℕ → List ℕ) (b : Board) → ((k : ℕ) (row : List ℕ) → n ≤ k → f k row ≡ row)
-    → onRows from (n + m) f b ≡ onRows from n f b
-no-further from n zero f b h = ap (λ (j : ℕ). onRows from j f b) (add-zero n)
-no-further from n (suc m) f b h =
+-- the first n rows and then so many more
+pub one-by-two : (from n m : ℕ) (f : ℕ → List ℕ → List ℕ) (b : Board) → onRows from (n + m) f b ≡ onRows (from + n) m (λ k. f (n + k)) (onRows from n f b)
+one-by-two from n zero f b = ap (λ (j : ℕ). onRows from j f b) (add-zero n) ∙ sym (none-yet (from + n) (λ k. f (n + k)) (onRows from n f b))
+one-by-two from n (suc m) f b =
     let e : n + suc m ≡ suc (n + m) = omega arith in
-    rw e
-    (sym (one-more from (n + m) f b)
-    ∙ ap (set (onRows from (n + m) f b) (from + (n + m))) (h (n + m) (getD (onRows from (n + m) f b) (from + (n + m)) []) (omega arith))
-    ∙ set-getD (onRows from (n + m) f b) (from + (n + m)) [] ∙ no-further from n m f b h)
+    let p : from + (n + m) ≡ from + n + m = omega arith in
+    rw (e, sym (one-more from (n + m) f b), p, one-by-two from n m f b) (one-more (from + n) m (λ k. f (n + k)) (onRows from n f b))
+
+-- rows that are all left as they are
+pub none-moved : (from n : ℕ) (f : ℕ → List ℕ → List ℕ) (b : Board) → ((k : ℕ) (row : List ℕ) → f k row ≡ row) → onRows from n f b ≡ b
+none-moved from zero f b h = none-yet from f b
+none-moved from (suc n) f b h =
+    sym (one-more from n f b)
+    ∙ ap (set (onRows from n f b) (from + n)) (h n (getD (onRows from n f b) (from + n) []))
+    ∙ set-getD (onRows from n f b) (from + n) [] ∙ none-moved from n f b h
 
 -- ---- what onRows leaves, and what it does to time
 
