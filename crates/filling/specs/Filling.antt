@@ -1,6 +1,6 @@
 -- The second deck's places are filled and emptied. Document 02, M-102.
 use Rattle.numbers.specs.Numbers as numbers
-use mathlib.Core.Bool.{Bool, true, false, cond, not, _&&_}
+use mathlib.Core.Bool.{true, false, cond, not, _&&_}
 use mathlib.Core.List.{List, []}
 use Prim.Native.Nat.{ℕ, zero, suc, _+_, _*_, _/_, _%_, _^_}
 use lib.Dec.{eqb}

@@ -4,16 +4,15 @@
 --     frames-append   frames of contents, and of others behind them, are those of both
 --     behind-yes      what a writer of a frame that is wanted and has room leaves
 use mathlib.Core.Path.{_≡_, refl, sym, ap, _∙_}
-use mathlib.Core.Bool.{Bool, true, false, cond, _&&_}
+use mathlib.Core.Bool.{Bool, true, false}
 use mathlib.Core.List.{List, [], _∷_, _++_, append-nil, append-assoc}
 use Prim.Native.Nat.{ℕ, _+_, _-_, _≤_}
 use native.Mathlib.Omega.{arith}
 use borrow.Author.Tests.{le-leb}
-use lib.Dec.{leb}
 use lib.ListN.{length, take, drop, length-drop}
 use lib.Seq.{drop-drop, take-all}
 use Rattle.laws.specs.Put.{put, Wrote}
-use Rattle.laws.proofs.Put.{then, put-swap, put-append, put-here, put-none, length-put}
+use Rattle.laws.proofs.Put.{then, put-swap, put-append, put-here, put-none}
 use Rattle.frames.specs.Seal.{header, frameOf, sealOf, sealEnd}
 use Rattle.frames.proofs.Sealing.{seal-yes}
 use Rattle.answers.specs.Calls.{framesOf}

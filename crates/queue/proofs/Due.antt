@@ -25,7 +25,6 @@ use Rattle.rows.specs.Places.{relayPlace, clockRow, firstLine, linePlace, queue
 use Rattle.rows.proofs.Range.{beyond}
 use Rattle.laws.specs.Bits.{bitOf}
 use Rattle.changes.specs.Commands.{masked, blocked, moves, blockMoved, blockedRow, blockOf}
-use Rattle.changes.specs.Answers.{differ}
 use Rattle.changes.proofs.Making.{differ-same}
 use Rattle.modules.specs.declared.Moved.{Moved}
 use Rattle.modules.specs.Modules.{filled, placeRow, hasModule}

@@ -1,15 +1,13 @@
 -- What a change of relays, the marks and a store to a place's row all keep, a place that is filled or emptied keeps.
 use mathlib.Core.Bool.{Bool, true, false}
 use mathlib.Core.List.{List}
-use Prim.Native.Nat.{ℕ, _≤_, _<_}
+use Prim.Native.Nat.{ℕ, _≤_}
 use native.Mathlib.Omega.{arith}
-use mathlib.Core.Path.{refl, sym}
 use lib.ListN.{set}
 use Rattle.laws.proofs.Tests.{by-cases}
-use Rattle.rows.specs.Places.{Board, firstPlace, rows}
+use Rattle.rows.specs.Places.{Board, firstPlace}
 use Rattle.modules.specs.declared.Moved.{Moved}
 use Rattle.modules.specs.Modules.{isPlace, filled, placeRow, placeSet, hasModule}
-use Rattle.modules.proofs.Place.{place-range}
 use Rattle.changes.specs.Commands.{blockOf}
 use Rattle.marks.specs.Marks.{marked, externalCleared}
 use Rattle.answers.specs.Calls.{Did}

@@ -4,7 +4,7 @@
 --     queue-event      an event but passing time leaves every word of it
 --     running-kept     so the running pulse keeps its place, its ms left and the states that were remembered, whatever message comes
 use mathlib.Core.Path.{_≡_, refl, ap, _∙_}
-use mathlib.Core.Bool.{Bool, true, false}
+use mathlib.Core.Bool.{true, false}
 use mathlib.Core.List.{List, []}
 use Prim.Native.Nat.{ℕ, _+_, _≤_, _<_}
 use native.Mathlib.Omega.{arith}

@@ -1,5 +1,5 @@
 -- `modules::is_present`: the first deck, place one, place two, or none.
-use mathlib.Core.Path.{sym, _∙_}
+use mathlib.Core.Path.{sym}
 use Rattle.modules.specs.Modules.{present}
 use borrow.Author.Needs.{needs}
 use Rattle.modules.proofs.is_present.Statement.{statement}

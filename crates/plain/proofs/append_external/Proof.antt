@@ -1,5 +1,4 @@
 -- `plain::append_external`: wanted and with room, the content is written behind its header's place and sealed; else nothing is.
-use mathlib.Core.Bool.{true}
 use mathlib.Core.Path.{_≡_, sym, ap, _∙_}
 use mathlib.Core.List.{_++_}
 use Prim.Native.Nat.{_+_, _-_, _≤_}

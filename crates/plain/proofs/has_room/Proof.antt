@@ -2,7 +2,6 @@
 use Prim.Native.Nat.{_+_}
 use native.Mathlib.Omega.{arith}
 use borrow.Author.Tests.{not-true, not-false, lt-leb, le-leb}
-use borrow.Author.Needs.{needs}
 use Rattle.plain.proofs.has_room.Statement.{statement}
 use Rattle.plain.proofs.has_room.Tie as tie
 

@@ -1,5 +1,5 @@
 -- `plain::send_due`: the one message if it is due, then the other; both marks are cleared.
-use mathlib.Core.Path.{sym, _∙_}
+use mathlib.Core.Path.{_∙_}
 use native.Mathlib.Omega.{arith}
 use native.Mathlib.Nat.{zero-add}
 use Rattle.laws.proofs.Put.{kept}

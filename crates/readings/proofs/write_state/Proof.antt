@@ -1,6 +1,5 @@
 -- `readings::write_state`: a byte, or nothing.
 use mathlib.Core.Path.{sym, _∙_}
-use native.Mathlib.Omega.{arith}
 use native.Mathlib.Nat.{add-zero}
 use Rattle.laws.proofs.Put.{put-none}
 use Rattle.writers.proofs.Sending.{byte-is}
