@@ -3,7 +3,7 @@
 
 ghost use mathlib.Core.Path.{_≡_};
 ghost use Rattle.alarms.specs.Alarms.{alarmState, alarmAbove, alarmAtOrAbove};
-use rows::Input;
+use records::Input;
 
 // The switch is set, and the input is on.
 pub fn alarm_state(i: Input) -> bool

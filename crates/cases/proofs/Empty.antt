@@ -39,8 +39,8 @@ use Rattle.demand.specs.Demand.{Call, bytes, other, Answer, Machine, final, tra
 use Rattle.demand.proofs.Following.{reaches}
 use Rattle.demand.specs.Empty.{Waiting, Frozen, Starving, Nodding, OneFrame}
 use Rattle.demand.proofs.Empty.{whole-served, not-idle, not-starving, not-frozen, not-nodding, meets-on}
-use Rattle.rows.specs.declared.Line.{Line}
-use Rattle.rows.specs.Rows.{isOn}
+use Rattle.records.specs.declared.Line.{Line}
+use Rattle.records.specs.Records.{isOn}
 use Rattle.pulses.specs.Pulses.{shortRow}
 use Rattle.demand.proofs.Taking.{rest-none}
 use Rattle.register.specs.Box.{connect, Reply, replyOf, Tables, refusalOf, served, tablesOf, box, atPowerUp, ends, run}

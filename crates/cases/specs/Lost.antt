@@ -14,9 +14,9 @@ use lib.Dec.{eqb, ltb}
 use lib.ListN.{length}
 use Rattle.words.specs.Words.{bytesOf}
 use Rattle.steps.specs.Cut.{seen}
-use Rattle.rows.specs.Rows.{inputIn, inputWords}
+use Rattle.records.specs.Records.{inputIn, inputWords}
 use Rattle.rows.specs.Places.{Board, firstInput, clockOf, onRows}
-use Rattle.rows.specs.Held.{counted}
+use Rattle.records.specs.Held.{counted}
 use Rattle.cases.specs.Empty.{shown}
 
 -- the box with another call

@@ -3,7 +3,7 @@ use mathlib.Core.Bool.{false, cond}
 use mathlib.Core.List.{List, [], _∷_, _++_}
 use Prim.Native.Nat.{ℕ, _+_, _*_}
 use lib.ListN.{length, getD, replicate}
-use Rattle.rows.specs.declared.Relay.{Relay}
+use Rattle.records.specs.declared.Relay.{Relay}
 use Rattle.rows.specs.Places.{Board, inputAt, lineAt}
 use Rattle.ring.specs.declared.Pulse.{Pulse}
 use Rattle.ring.specs.Ring.{pulseOf}

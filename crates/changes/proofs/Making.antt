@@ -11,11 +11,11 @@ use Rattle.laws.specs.Each.{anyBelow}
 use Rattle.laws.proofs.Each.{none-of}
 use lib.ListN.{set}
 use lib.Seq.{set-getD}
-use Rattle.rows.specs.Rows.{relayIn, blankRelay}
+use Rattle.records.specs.Records.{relayIn, blankRelay}
 use Rattle.rows.specs.Places.{Board, isRelay, rowAt, relayAt, putRelay, onRows, firstRelay, relayPlace}
 use Rattle.rows.proofs.Channel.{relay}
 use Rattle.rows.proofs.Range.{Ranging, row-waits, beyond, none-moved}
-use Rattle.rows.specs.Held.{switched}
+use Rattle.records.specs.Held.{switched}
 use Rattle.laws.specs.Bits.{bitOf}
 use Rattle.modules.specs.Modules.{unmoved}
 use Rattle.changes.specs.declared.Changed.{Changed}

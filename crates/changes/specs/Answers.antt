@@ -3,8 +3,8 @@ use Rattle.numbers.specs.Numbers as numbers
 use mathlib.Core.Path.{_≡_}
 use mathlib.Core.Bool.{Bool, Bool·beq, cond, not}
 use Prim.Native.Nat.{ℕ}
-use Rattle.rows.specs.declared.Input.{Input}
-use Rattle.rows.specs.declared.Relay.{Relay}
+use Rattle.records.specs.declared.Input.{Input}
+use Rattle.records.specs.declared.Relay.{Relay}
 use Rattle.rows.specs.Places.{Board, isChannel, inputAt, relayAt, putInput, putRelay}
 use Rattle.modules.specs.declared.Moved.{Moved}
 use Rattle.modules.specs.Modules.{unmoved, innerMoved, movedAt}

@@ -6,7 +6,7 @@ ghost use mathlib.Core.Bool.{_||_, cond};
 ghost use Prim.Native.Nat.{_+_, _≤_};
 ghost use Rattle.laws.specs.Each.{anyBelow};
 ghost use Rattle.rows.specs.Places.{relayAt, putRelay, onRows, firstRelay};
-ghost use Rattle.rows.specs.Held.{switched};
+ghost use Rattle.records.specs.Held.{switched};
 ghost use Rattle.edits.specs.Edits.{inputEdited, relayEdited};
 ghost use Rattle.changes.specs.Answers.{Makes, noChange, sameAgain, differ, onInput, onRelay};
 ghost use Rattle.changes.specs.Levels.{hasLevel, levelOf};

@@ -5,8 +5,8 @@ use mathlib.Core.Bool.{Bool, true, cond, _&&_}
 use mathlib.Core.List.{[]}
 use Prim.Native.Nat.{ℕ}
 use lib.Dec.{ltb}
-use Rattle.rows.specs.declared.Line.{Line}
-use Rattle.rows.specs.Rows.{isOn, shutLine}
+use Rattle.records.specs.declared.Line.{Line}
+use Rattle.records.specs.Records.{isOn, shutLine}
 use Rattle.rows.specs.Places.{Board, isConnection, lineAt, putLine}
 use Rattle.modules.specs.Modules.{hasModule}
 use Rattle.marks.specs.Marks.{lineOf, hasRank}

@@ -3,11 +3,11 @@
 
 ghost use mathlib.Core.Path.{_≡_};
 ghost use mathlib.Core.Bool.{_&&_};
-ghost use Rattle.rows.specs.Rows.{shutLine};
+ghost use Rattle.records.specs.Records.{shutLine};
 ghost use Rattle.answers.specs.Calls.{Gives};
 ghost use Rattle.connections.specs.Lines.{openedLine, isOpen, isStrict, connected, closed};
 use answers::Served;
-use rows::Line;
+use records::Line;
 use rows::ROWS;
 
 // A connection that is closed: everything of it is 0.

@@ -14,11 +14,11 @@ use Rattle.pieces.specs.declared.Done.{Done}
 use Rattle.halves.specs.Halves.{Halves}
 use Rattle.pieces.specs.Effects.{Answers, still, doneOf}
 use Rattle.pieces.specs.Pieces.{bytesCall, halvesAfter, roomsAfter}
-use Rattle.console.specs.declared.Parsed.{Parsed}
-use Rattle.console.specs.declared.Parsed.the-variants.{Bytes, Bad}
-use Rattle.console.specs.Digits.{parsed, told, bytesIn}
+use Rattle.hexadecimal.specs.declared.Parsed.{Parsed}
+use Rattle.hexadecimal.specs.declared.Parsed.the-variants.{Bytes, Bad}
+use Rattle.hexadecimal.specs.Digits.{parsed, told, bytesIn}
 use Rattle.console.specs.Lines.{offered, halvesOffered, roomsOffered, lineCall, lineHalves, lineRooms}
-use Rattle.console.proofs.Reading.{told-bytes, told-bad, parsed-length}
+use Rattle.hexadecimal.proofs.Reading.{told-bytes, told-bad, parsed-length}
 
 -- the first n bytes of the store are what the line holds
 pub piece-parsed : (line store₀ store : List ℕ) (n : ℕ) (r : Parsed) → length store₀ ≡ 1029

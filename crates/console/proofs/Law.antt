@@ -17,10 +17,10 @@ use Rattle.steps.specs.Cut.{joined}
 use Rattle.rows.specs.Places.{Board}
 use Rattle.halves.specs.Halves.{Halves}
 use Rattle.pieces.specs.Effects.{Effect}
-use Rattle.console.specs.Digits.{feeds, parsed}
+use Rattle.hexadecimal.specs.Digits.{feeds, parsed}
 use Rattle.console.specs.Lines.{onFirst, linesOf, started, startedHalves, lineCall, lineHalves, lineRooms, shown, printed}
 use Rattle.console.specs.Console.{Held, held, lineHeld, ended, kept, step, says, run, said, saidAtEnd, saidOf}
-use Rattle.console.proofs.Reading.{feeds-short, parsed-none}
+use Rattle.hexadecimal.proofs.Reading.{feeds-short, parsed-none}
 
 -- ---- pieces
 

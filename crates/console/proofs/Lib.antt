@@ -1,5 +1,3 @@
-pub mod Reading
-pub mod Showing
 pub mod Starting
 pub mod Feeding
 pub mod Stepping

@@ -18,7 +18,7 @@ use Rattle.words.proofs.Laws.{stored}
 use Rattle.rows.specs.Places.{Board}
 use Rattle.pieces.specs.declared.Done.{Done}
 use Rattle.halves.specs.Halves.{Halves}
-use Rattle.console.specs.Digits.{allRelays, relayBits, shownOf}
+use Rattle.hexadecimal.specs.Digits.{allRelays, relayBits, shownOf}
 use Rattle.console.specs.Lines.{shown}
 use Rattle.console.specs.Console.{Held, held, soFar, lineHeld, ended, kept, step, says, run, said}
 use Rattle.console.proofs.Feeding.{FedLine}

@@ -13,7 +13,7 @@ use Rattle.pieces.specs.Effects.{Effect, still}
 use Rattle.pieces.specs.Pieces.{bytesCall, halvesAfter, roomsAfter}
 use Rattle.board.specs.Calls.{connectCall}
 use lib.ListN.{replicate}
-use Rattle.console.specs.Digits.{parsed, allRelays, relayBits, shownOf}
+use Rattle.hexadecimal.specs.Digits.{parsed, allRelays, relayBits, shownOf}
 
 -- a character at the front of the first line
 unfoldable pub onFirst : ℕ → List (List ℕ) → List (List ℕ)

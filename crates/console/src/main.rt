@@ -1,128 +1,30 @@
 // The console: lines of hexadecimal in, two digits of the answer and four of the relays a line out. Each line is one piece for connection 0,
 // which is open at rank 2.
 // `main` lends the board, the half-read messages (halves), their content (rooms), the line that has not ended and the reply buffer.
-// It alone knows hexadecimal and lines. `main`, `read_all`, `read_on` and `write_out` read and write and do nothing else; every other function is
-// on slices and numbers, and its contract says all that it answers and leaves.
+// It alone knows lines; their digits are the crate hexadecimal's. `main`, `read_all`, `read_on` and `write_out` read and write and do nothing
+// else; every other function is on slices and numbers, and its contract says all that it answers and leaves.
 
 ghost use mathlib.Core.Path.{_≡_};
 ghost use mathlib.Core.Bool.{cond};
-ghost use Prim.Native.Nat.{_+_, _/_, _%_, _≤_, _<_, min};
+ghost use Prim.Native.Nat.{_+_, _≤_, min};
 ghost use lib.Dec.{ltb};
 ghost use lib.ListN.{length, set, take};
-ghost use Rattle.laws.specs.Put.{put, Wrote};
+ghost use Rattle.laws.specs.Put.{Wrote};
 ghost use Rattle.pieces.specs.Effects.{Answers};
-ghost use Rattle.console.specs.Digits.{isDigit, digitOf, allDigits, feeds, pairs, parsed};
-ghost use Rattle.console.specs.Digits.{told, bytesIn, glyph as Digits·glyph, closedBit, relayBits, allRelays, shownOf};
 ghost use Rattle.console.specs.Lines.{started, startedHalves, lineCall, lineHalves, lineRooms, shown};
 ghost use Rattle.console.specs.Console.{heldOf, lineHeld, ended, step, says, run, said, atEnd, saidAtEnd, everyRead, readsLeft, Spent};
+use hexadecimal::Parsed;
 use libc::STDIN_FILENO;
 use libc::STDOUT_FILENO;
 use pieces::Done;
 use powerup::InputSettings;
 use powerup::Settings;
 use rows::ROWS;
-use rows::Relay;
 
 // What is held by value between two bytes of the input: used characters of the line that has not ended, len bytes of output so far.
 struct Console {
     used: usize,
     len: usize,
-}
-
-// What a line holds: so many bytes, or nothing that can be fed.
-enum Parsed {
-    Bytes(usize),
-    Bad,
-}
-
-// ---- hexadecimal
-
-fn is_digit(c: u8) -> bool
-    ensures { λ r. ⌜ r ≡ isDigit c ⌝ }
-{
-    if c < 48 {
-        return false;
-    }
-    if c <= 57 {
-        return true;
-    }
-    if c < 65 {
-        return false;
-    }
-    c <= 70
-}
-
-fn digit(c: u8) -> u8
-    ensures { λ r. ⌜ (r ≡ digitOf c) × (r < 16) ⌝ }
-{
-    if c < 48 {
-        return 0;
-    }
-    if c <= 57 {
-        return c - 48;
-    }
-    if c < 65 {
-        return 0;
-    }
-    if c <= 70 {
-        return c - 55;
-    }
-    0
-}
-
-fn all_digits(line: &[u8]) -> bool
-    ensures { λ r. ⌜ r ≡ allDigits (now (line .entry)) ⌝ }
-{
-    let mut i: usize = 0;
-    while i < line.len() {
-        if !is_digit(line[i]) {
-            return false;
-        }
-        i += 1;
-    }
-    true
-}
-
-// Whether a line is not empty, even, at most 2,058 characters, and all digits.
-fn is_frame(line: &[u8]) -> bool
-    ensures { λ r. ⌜ r ≡ feeds (now (line .entry)) ⌝ }
-{
-    if line.len() == 0 {
-        return false;
-    }
-    if line.len() % 2 != 0 {
-        return false;
-    }
-    if 2058 < line.len() {
-        return false;
-    }
-    all_digits(line)
-}
-
-// The bytes of a line of digits, from the front of out on.
-fn unpack(line: &[u8], out: &mut [u8; 1029]) -> usize
-    requires { ⌜ length (now line) ≤ 2058 ⌝ }
-    ensures { λ r. ⌜ Wrote 0 (pairs (now (line .entry))) (now (out .entry)) (now (out .exit)) r ⌝ }
-{
-    let mut i: usize = 0;
-    let mut k: usize = 0;
-    while 1 < line.len() - i {
-        out[k] = digit(line[i]) * 16 + digit(line[i + 1]);
-        i += 2;
-        k += 1;
-    }
-    k
-}
-
-// A line that can be fed becomes its bytes, at the front of out; a bad line leaves out as it is.
-fn parse(line: &[u8], out: &mut [u8; 1029]) -> Parsed
-    ensures { λ r. ⌜ r ≡ told (parsed (now (line .entry))) ⌝ }
-    ensures { λ _. ⌜ now (out .exit) ≡ put 0 (bytesIn (parsed (now (line .entry)))) (now (out .entry)) ⌝ }
-{
-    if !is_frame(line) {
-        return Parsed::Bad;
-    }
-    Parsed::Bytes(unpack(line, out))
 }
 
 // One line's effect. The reply is written at the front of the reply buffer and goes nowhere: the console prints its answer number alone.
@@ -140,7 +42,7 @@ fn feed_line(
     ensures { λ _. ⌜ now (rooms .exit) ≡ lineRooms (now (line .entry)) (now (board .entry)) (now (halves .entry)) (now (rooms .entry)) ⌝ }
 {
     let mut piece = [0u8; 1029];
-    let p = parse(line, &mut piece);
+    let p = hexadecimal::parse(line, &mut piece);
     match p {
         Parsed::Bytes(n) => board::done_of(board::bytes(
             board,
@@ -158,57 +60,6 @@ fn feed_line(
             answer: 255,
         },
     }
-}
-
-// ---- an answer in digits
-
-fn closed_bit(r: Relay) -> u16
-    ensures { λ v. ⌜ (v ≡ closedBit r) × (v < 2) ⌝ }
-{
-    if r.closed { 1 } else { 0 }
-}
-
-// The relays as a number, the last first, so that relay 1 ends as the lowest bit.
-fn relay_number(board: &[[u64; 8]; ROWS]) -> u16
-    ensures { λ r. ⌜ r ≡ relayBits (allRelays (now (board .entry))) ⌝ }
-{
-    let mut v: u16 = 0;
-    let mut k: usize = 16;
-    while 0 < k {
-        let r = rows::relay_at(board, k);
-        k -= 1;
-        v = v * 2 + closed_bit(r);
-    }
-    v
-}
-
-fn glyph(d: u8) -> u8
-    requires { ⌜ d < 16 ⌝ }
-    ensures { λ r. ⌜ r ≡ Digits·glyph d ⌝ }
-{
-    if d < 10 { 48 + d } else { 55 + d }
-}
-
-// The digit of a number that has this weight: 1, 16, 256 or 4,096.
-fn digit_of(number: u16, weight: u16) -> u8
-    requires { ⌜ 0 < weight ⌝ }
-    ensures { λ r. ⌜ r ≡ Digits·glyph (number / weight % 16) ⌝ }
-{
-    glyph((number / weight % 16) as u8)
-}
-
-fn digits(answer: u8, relays: u16) -> [u8; 7]
-    ensures { λ r. ⌜ r ≡ shownOf answer relays ⌝ }
-{
-    [
-        digit_of(answer as u16, 16),
-        digit_of(answer as u16, 1),
-        digit_of(relays, 4096),
-        digit_of(relays, 256),
-        digit_of(relays, 16),
-        digit_of(relays, 1),
-        10,
-    ]
 }
 
 // ---- the box
@@ -260,7 +111,7 @@ fn end_line(
         (now (out .entry)) (now (out .exit)) (r .len) ⌝ }
 {
     let d = feed_line(board, halves, rooms, so_far(line, s.used), reply);
-    let text = digits(d.answer, relay_number(board));
+    let text = hexadecimal::digits(d.answer, hexadecimal::relay_number(board));
     let at = s.len;
     let len = copying::copy(out, at, &text);
     Console {

@@ -20,9 +20,9 @@ use lib.Seq.{set-out, getD-set-same, getD-set-other}
 use borrow.Author.Tests.{ltb-true, ltb-false, lt-ltb, le-ltb, eqb-true, eqb-false}
 use Rattle.laws.specs.Bits.{bitOf}
 use Rattle.laws.proofs.Tests.{by-cases}
-use Rattle.rows.specs.declared.Queue.{Queue}
-use Rattle.rows.specs.declared.Line.{Line}
-use Rattle.rows.specs.Rows.{word, isOn, relayIn, queueIn, externalWord, dueWord}
+use Rattle.records.specs.declared.Queue.{Queue}
+use Rattle.records.specs.declared.Line.{Line}
+use Rattle.records.specs.Records.{word, isOn, relayIn, queueIn, externalWord, dueWord}
 use Rattle.rows.specs.Places.{Board, rowAt, relayAt, lineAt, firstRelay, relayPlace, firstLine, linePlace, queueRow, queueOf, firstPlace, onRows}
 use Rattle.rows.proofs.Range.{beyond, set-behind}
 use Rattle.modules.specs.declared.Moved.{Moved}

@@ -3,9 +3,9 @@ use mathlib.Core.Bool.{Bool, true, false, cond, not, _&&_, _||_}
 use Prim.Native.Nat.{ℕ, _+_, min}
 use lib.Dec.{eqb, ltb}
 use Rattle.laws.specs.Bits.{hasFlag}
-use Rattle.rows.specs.declared.Input.{Input}
-use Rattle.rows.specs.declared.Relay.{Relay}
-use Rattle.rows.specs.Held.{leveled, counted, inputUsed, switched, relayUsed}
+use Rattle.records.specs.declared.Input.{Input}
+use Rattle.records.specs.declared.Relay.{Relay}
+use Rattle.records.specs.Held.{leveled, counted, inputUsed, switched, relayUsed}
 use Rattle.edits.specs.declared.InputEdit.{InputEdit}
 use Rattle.edits.specs.declared.InputEdit.the-variants as input
 use Rattle.edits.specs.declared.RelayEdit.{RelayEdit}

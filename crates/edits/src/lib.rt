@@ -5,8 +5,8 @@ ghost use mathlib.Core.Path.{_≡_};
 ghost use mathlib.Core.Bool.{cond};
 ghost use Rattle.laws.specs.Bits.{bitOf};
 ghost use Rattle.edits.specs.Edits.{raised, told, countWritten, stateWritten, inputWritten, relayWritten, relayFails, inputEdited, relayEdited};
-use rows::Input;
-use rows::Relay;
+use records::Input;
+use records::Relay;
 
 // A rise counts, up to the largest number.
 fn raise(before: bool, after: bool, count: u64) -> u64

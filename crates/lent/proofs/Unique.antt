@@ -3,7 +3,7 @@ use mathlib.Core.Path.{_≡_, sym, _∙_}
 use mathlib.Core.List.{List}
 use Prim.Native.Nat.{ℕ}
 use lib.ListN.{set}
-use Rattle.rows.specs.declared.Queue.{Queue}
+use Rattle.records.specs.declared.Queue.{Queue}
 use Rattle.ring.specs.declared.Pulse.{Pulse}
 use Rattle.ring.specs.Ring.{pulseAt}
 use Rattle.filling.specs.Filling.{lost, rowWithout}

@@ -4,8 +4,8 @@ ghost use mathlib.Core.Path.{_≡_};
 ghost use lib.ListN.{set};
 ghost use Rattle.ring.specs.Ring.{pulseAt};
 ghost use Rattle.filling.specs.Filling.{lost, rowWithout};
+use records::Queue;
 use ring::Pulse;
-use rows::Queue;
 
 // The record at a place of the row.
 pub fn pulse_at(row: &[Pulse], i: usize) -> Pulse

@@ -6,7 +6,7 @@ use Prim.Native.Nat.{ℕ, _<_}
 use borrow.Author.Tests.{lt-ltb}
 use lib.ListN.{set}
 use lib.Seq.{set-getD}
-use Rattle.rows.specs.Rows.{lineIn, dueWords}
+use Rattle.records.specs.Records.{lineIn, dueWords}
 use Rattle.rows.specs.Places.{Board, rowAt, lineAt, dueSet, linePlace}
 use Rattle.marks.specs.Marks.{watches, markedRow}
 

@@ -4,8 +4,8 @@ use mathlib.Core.List.{List}
 use Prim.Native.Nat.{ℕ}
 use lib.Dec.{leb}
 use lib.ListN.{set}
-use Rattle.rows.specs.declared.Line.{Line}
-use Rattle.rows.specs.Rows.{lineIn, dueWords, externalWord}
+use Rattle.records.specs.declared.Line.{Line}
+use Rattle.records.specs.Records.{lineIn, dueWords, externalWord}
 use Rattle.rows.specs.Places.{Board, onRows, firstLine}
 use Rattle.modules.specs.declared.Moved.{Moved}
 use Rattle.modules.specs.Modules.{hasModule}

@@ -6,13 +6,13 @@ ghost use mathlib.Core.Path.{_≡_};
 ghost use mathlib.Core.Bool.{_&&_, cond};
 ghost use Prim.Native.Nat.{_<_};
 ghost use lib.ListN.{set};
-ghost use Rattle.rows.specs.Rows.{externalWord};
+ghost use Rattle.records.specs.Records.{externalWord};
 ghost use Rattle.rows.specs.Places.{rowAt, linePlace, lineAt, dueSet};
 ghost use Rattle.marks.specs.Marks.{hasRank, watches, anyMoved, marked, externalCleared};
 use modules::Moved;
-use rows::EXTERNAL;
+use records::EXTERNAL;
+use records::Line;
 use rows::FIRST_LINE;
-use rows::Line;
 use rows::ROWS;
 
 fn both(a: bool, b: bool) -> bool

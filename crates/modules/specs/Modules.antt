@@ -4,7 +4,7 @@ use mathlib.Core.List.{List, [], _∷_}
 use Prim.Native.Nat.{ℕ, _+_, _-_}
 use lib.Dec.{leb}
 use lib.ListN.{set}
-use Rattle.rows.specs.Rows.{word, isOn, flagged}
+use Rattle.records.specs.Records.{word, isOn, flagged}
 use Rattle.rows.specs.Places.{Board, isChannel, rowAt, firstPlace}
 use Rattle.modules.specs.declared.Moved.{Moved}
 

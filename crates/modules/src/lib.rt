@@ -6,7 +6,7 @@ ghost use mathlib.Core.Path.{_≡_};
 ghost use mathlib.Core.Bool.{cond, _&&_, _||_, not};
 ghost use lib.Dec.{leb};
 ghost use lib.ListN.{length};
-ghost use Rattle.rows.specs.Rows.{flagged};
+ghost use Rattle.records.specs.Records.{flagged};
 ghost use Rattle.modules.specs.Modules.{isPlace, filled, placeSet, present, hasModule, outputs, movedAt};
 use rows::FIRST_PLACE;
 use rows::ROWS;

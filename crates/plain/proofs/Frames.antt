@@ -17,7 +17,7 @@ use Rattle.frames.specs.Seal.{header, frameOf, sealOf, sealEnd}
 use Rattle.frames.proofs.Sealing.{seal-yes}
 use Rattle.answers.specs.Calls.{framesOf}
 use Rattle.answers.proofs.Replying.{part-long, given-back}
-use Rattle.rows.specs.declared.Line.{Line}
+use Rattle.records.specs.declared.Line.{Line}
 use Rattle.rows.specs.Places.{Board}
 use Rattle.readings.specs.Readings.{monitorReply, externalReply, externalRoom}
 use Rattle.readings.proofs.Lengths.{length-monitor, length-external}

@@ -2,9 +2,9 @@
 use mathlib.Core.Path.{_≡_, _∙_}
 use Prim.Native.Nat.{ℕ, _+_, _<_}
 use lib.ListN.{set}
-use Rattle.rows.specs.declared.Input.{Input}
-use Rattle.rows.specs.declared.Relay.{Relay}
-use Rattle.rows.specs.Rows.{inputWords, relayWords}
+use Rattle.records.specs.declared.Input.{Input}
+use Rattle.records.specs.declared.Relay.{Relay}
+use Rattle.records.specs.Records.{inputWords, relayWords}
 use Rattle.rows.specs.Places.{Board, rowAt, putInput, putRelay, inputPlace, relayPlace}
 use Rattle.rows.proofs.Channel.{channel, channel-relay}
 

@@ -2,9 +2,9 @@
 
 ghost use mathlib.Core.Path.{_≡_};
 ghost use Rattle.powerup.specs.PowerUp.{freshInput, freshRelay, poweredUp};
-use rows::Input;
+use records::Input;
+use records::Relay;
 use rows::ROWS;
-use rows::Relay;
 
 // What the host sets of an input at power-up; alarm is the alarm switch.
 #[repr(C)]

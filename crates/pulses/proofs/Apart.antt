@@ -8,7 +8,7 @@ use native.Mathlib.Omega.{arith}
 use lib.ListN.{set}
 use lib.Seq.{getD-set-other, set-comm}
 use Rattle.laws.proofs.Tests.{by-cases}
-use Rattle.rows.specs.Rows.{queueIn}
+use Rattle.records.specs.Records.{queueIn}
 use Rattle.rows.specs.Places.{Board, rowAt, firstOuter, clockRow, clockSet, firstRelay, firstLine, queueRow, queueOf, leftSet, onRows}
 use Rattle.rows.proofs.Range.{behind, beyond, set-behind}
 use Rattle.tables.specs.Time.{usagePassed, passed}

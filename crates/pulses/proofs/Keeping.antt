@@ -4,7 +4,7 @@ use mathlib.Core.List.{List}
 use Prim.Native.Nat.{ℕ, zero, suc}
 use lib.ListN.{set}
 use Rattle.laws.proofs.Tests.{by-cases}
-use Rattle.rows.specs.declared.Queue.{Queue}
+use Rattle.records.specs.declared.Queue.{Queue}
 use Rattle.rows.specs.Places.{Board, queueRow, queueOf, putQueue, leftSet}
 use Rattle.tables.specs.Time.{passed}
 use Rattle.changes.specs.Commands.{blockOf}

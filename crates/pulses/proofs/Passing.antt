@@ -12,8 +12,8 @@ use lib.ListN.{length}
 use lib.Seq.{getD-set-same}
 use borrow.Author.Tests.{leb-true, ltb-true, ltb-false}
 use Rattle.laws.proofs.Tests.{by-cases, and-left, and-right}
-use Rattle.rows.specs.declared.Queue.{Queue}
-use Rattle.rows.specs.Rows.{queueIn, queueWords}
+use Rattle.records.specs.declared.Queue.{Queue}
+use Rattle.records.specs.Records.{queueIn, queueWords}
 use Rattle.rows.specs.Places.{Board, rowAt, queueRow, queueOf, putQueue}
 use Rattle.tables.specs.Time.{passed}
 use Rattle.ring.specs.declared.Pulse.{Pulse}

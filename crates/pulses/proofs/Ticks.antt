@@ -15,8 +15,8 @@ use borrow.Author.Tests.{leb-true, leb-false, le-leb, lt-leb}
 use Rattle.laws.specs.Times.{times}
 use Rattle.laws.proofs.Flow.{times-add}
 use Rattle.laws.proofs.Tests.{by-cases, and-left, and-right}
-use Rattle.rows.specs.declared.Queue.{Queue}
-use Rattle.rows.specs.Rows.{word, leftWord}
+use Rattle.records.specs.declared.Queue.{Queue}
+use Rattle.records.specs.Records.{word, leftWord}
 use Rattle.rows.specs.Places.{Board, rowAt, queueRow, queueOf, putQueue, leftSet}
 use Rattle.tables.specs.Time.{passed}
 use Rattle.tables.proofs.Theorems.{passed-flow}

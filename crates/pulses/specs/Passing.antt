@@ -3,7 +3,7 @@ use Rattle.numbers.specs.Numbers as numbers
 use mathlib.Core.Path.{_≡_}
 use mathlib.Core.Bool.{true, false, cond}
 use Prim.Native.Nat.{ℕ, _-_, min}
-use Rattle.rows.specs.declared.Queue.{Queue}
+use Rattle.records.specs.declared.Queue.{Queue}
 use Rattle.rows.specs.Places.{Board, queueOf}
 use Rattle.tables.specs.Time.{passed}
 use Rattle.ring.specs.declared.Pulse.{Pulse}

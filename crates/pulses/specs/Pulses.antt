@@ -4,7 +4,7 @@ use mathlib.Core.List.{List}
 use Prim.Native.Nat.{ℕ, zero, suc, _+_, _-_, _%_, _^_, max}
 use lib.Dec.{leb, ltb}
 use Rattle.laws.specs.Times.{times}
-use Rattle.rows.specs.declared.Queue.{Queue}
+use Rattle.records.specs.declared.Queue.{Queue}
 use Rattle.rows.specs.Places.{Board, relayAt, queueOf, putQueue, leftSet}
 use Rattle.tables.specs.Time.{passed}
 use Rattle.changes.specs.Answers.{Change}

@@ -11,8 +11,8 @@ ghost use Rattle.rows.specs.Places.{relayAt, queueOf, leftSet};
 ghost use Rattle.ring.specs.Ring.{isFull, runs};
 ghost use Rattle.pulses.specs.Pulses.{shortRow, statesOf, switched, begun, ended, followed, lasts, endsWithin, waited, accepted};
 ghost use Rattle.pulses.specs.Passing.{onward, startOf, turnOf, over, Goes};
+use records::Queue;
 use ring::Pulse;
-use rows::Queue;
 use rows::ROWS;
 
 // How far a call of time has come: the ms that are left, the running pulse's place in the row and that of the next, the call's answer, and

@@ -16,10 +16,10 @@ use borrow.Author.Tests.{lt-ltb, ltb-true, ltb-false}
 use Rattle.laws.specs.Each.{anyBelow}
 use Rattle.laws.proofs.Each.{none-of}
 use Rattle.laws.proofs.Tests.{by-cases}
-use Rattle.rows.specs.declared.Queue.{Queue}
-use Rattle.rows.specs.declared.Line.{Line}
-use Rattle.rows.specs.declared.Relay.{Relay}
-use Rattle.rows.specs.Rows.{lineIn, dueWords, relayIn, blankRelay}
+use Rattle.records.specs.declared.Queue.{Queue}
+use Rattle.records.specs.declared.Line.{Line}
+use Rattle.records.specs.declared.Relay.{Relay}
+use Rattle.records.specs.Records.{lineIn, dueWords, relayIn, blankRelay}
 use Rattle.rows.specs.Places.{Board, isRelay, rowAt, relayAt, lineAt, firstRelay}
 use Rattle.rows.specs.Places.{relayPlace, clockRow, firstLine, linePlace, queueRow, queueOf, putQueue, onRows}
 use Rattle.rows.proofs.Range.{beyond}

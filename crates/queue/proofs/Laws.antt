@@ -32,10 +32,10 @@ use borrow.Author.Tests.{ltb-true, ltb-false, leb-false, le-leb, lt-leb, lt-ltb,
 use Rattle.laws.specs.Times.{times}
 use Rattle.laws.proofs.Flow.{times-add}
 use Rattle.laws.proofs.Tests.{by-cases, and-left}
-use Rattle.rows.specs.declared.Queue.{Queue}
+use Rattle.records.specs.declared.Queue.{Queue}
 use Rattle.rows.specs.Places.{Board, isRelay, relayAt, queueRow, queueOf, putQueue}
 use Rattle.rows.proofs.Channel.{relay-range}
-use Rattle.rows.specs.Held as held
+use Rattle.records.specs.Held as held
 use Rattle.laws.specs.Bits.{bitOf}
 use Rattle.tables.specs.Time.{passed}
 use Rattle.ring.specs.declared.Pulse.{Pulse}

@@ -15,10 +15,10 @@ use lib.ListN.{length, set, length-set}
 use lib.Seq.{getD-set-other}
 use borrow.Author.Tests.{ltb-true}
 use Rattle.laws.proofs.Tests.{by-cases}
-use Rattle.rows.specs.declared.Input.{Input}
-use Rattle.rows.specs.declared.Relay.{Relay}
-use Rattle.rows.specs.declared.Line.{Line}
-use Rattle.rows.specs.Rows.{queueIn, inputWords, relayWords, lineWords}
+use Rattle.records.specs.declared.Input.{Input}
+use Rattle.records.specs.declared.Relay.{Relay}
+use Rattle.records.specs.declared.Line.{Line}
+use Rattle.records.specs.Records.{queueIn, inputWords, relayWords, lineWords}
 use Rattle.rows.specs.Places.{Board, isChannel, isRelay, isConnection, rowAt, inputPlace, relayPlace, linePlace, inputAt, relayAt}
 use Rattle.rows.specs.Places.{putInput, putRelay, putLine, clockRow, clockSet, firstRelay, firstLine, queueRow, queueOf, onRows}
 use Rattle.rows.proofs.Channel.{in-range, relay-range}

@@ -13,13 +13,13 @@ use native.Mathlib.Numerals.{add-one}
 use lib.ListN.{length, length-set}
 use lib.Seq.{getD-set-other}
 use Rattle.laws.proofs.Tests.{by-cases}
-use Rattle.rows.specs.declared.Queue.{Queue}
-use Rattle.rows.specs.Rows.{relayIn, relayWords}
+use Rattle.records.specs.declared.Queue.{Queue}
+use Rattle.records.specs.Records.{relayIn, relayWords}
 use Rattle.rows.specs.Places.{Board, rowAt, relayAt, firstRelay, relayPlace, clockRow, firstLine, queueRow, queueOf, putQueue, onRows}
 use Rattle.rows.proofs.Channel.{relay}
 use Rattle.rows.proofs.Range.{within, beyond}
-use Rattle.rows.proofs.Views.{relay-again}
-use Rattle.rows.specs.Held as held
+use Rattle.records.proofs.Views.{relay-again}
+use Rattle.records.specs.Held as held
 use Rattle.laws.specs.Bits.{bitOf}
 use Rattle.changes.specs.Commands.{blockedRow, blockOf}
 use Rattle.modules.specs.declared.Moved.{Moved}

@@ -17,7 +17,7 @@ use lib.Seq.{lt-length-set, set-out, getD-set-same, getD-set-other}
 use borrow.Author.Tests.{ltb-true, ltb-false, leb-true, leb-false, le-leb, lt-leb, lt-ltb, le-ltb}
 use Rattle.laws.specs.Times.{times}
 use Rattle.laws.proofs.Tests.{by-cases}
-use Rattle.rows.specs.declared.Queue.{Queue}
+use Rattle.records.specs.declared.Queue.{Queue}
 use Rattle.rows.specs.Places.{Board, queueRow, queueOf, putQueue, leftSet}
 use Rattle.tables.specs.Time.{passed}
 use Rattle.ring.specs.declared.Pulse.{Pulse}

@@ -14,14 +14,14 @@ use lib.ListN.{length, set, length-set}
 use lib.Seq.{getD-set-same, getD-set-other}
 use borrow.Author.Tests.{ltb-true, ltb-false, le-leb, lt-leb, lt-ltb}
 use Rattle.laws.proofs.Tests.{by-cases}
-use Rattle.rows.specs.declared.Queue.{Queue}
-use Rattle.rows.specs.declared.Relay.{Relay}
-use Rattle.rows.specs.Rows.{word, stateWord, usageWord, isOn}
+use Rattle.records.specs.declared.Queue.{Queue}
+use Rattle.records.specs.declared.Relay.{Relay}
+use Rattle.records.specs.Records.{word, stateWord, usageWord, isOn}
 use Rattle.rows.specs.Places.{Board, isRelay, rowAt, relayAt, lineAt, relayPlace, linePlace}
 use Rattle.rows.specs.Places.{firstOuter, clockRow, clockSet, queueRow, queueOf, putQueue, leftSet, onRows}
 use Rattle.rows.proofs.Channel.{relay-range, channel}
 use Rattle.rows.proofs.Range.{within, behind}
-use Rattle.rows.specs.Held as held
+use Rattle.records.specs.Held as held
 use Rattle.laws.specs.Bits.{bitOf}
 use Rattle.tables.specs.Time.{grown, usagePassed, relayPassed, passed}
 use Rattle.tables.proofs.Views.{time-relay}

@@ -5,8 +5,8 @@ use mathlib.Core.List.{List, [], _∷_, _++_}
 use Prim.Native.Nat.{ℕ, zero, suc, _-_, _<_, _^_}
 use lib.Dec.{leb}
 use lib.ListN.{length}
-use Rattle.rows.specs.declared.Queue.{Queue}
-use Rattle.rows.specs.declared.Line.{Line}
+use Rattle.records.specs.declared.Queue.{Queue}
+use Rattle.records.specs.declared.Line.{Line}
 use Rattle.rows.specs.Places.{Board, relayAt, queueOf, leftSet}
 use Rattle.modules.specs.Modules.{hasModule}
 use Rattle.tables.specs.Time.{passed}

@@ -15,8 +15,8 @@ use Rattle.steps.specs.Cut.{Got}
 use Rattle.steps.specs.Steps.{start, halfAfter}
 use Rattle.framing.specs.Reading.{gotOf}
 use Rattle.framing.proofs.Turns.{length-run}
-use Rattle.rows.specs.declared.Line.{Line}
-use Rattle.rows.specs.Rows.{lineIn, lineWords, shutLine}
+use Rattle.records.specs.declared.Line.{Line}
+use Rattle.records.specs.Records.{lineIn, lineWords, shutLine}
 use Rattle.rows.specs.Places.{Board, isConnection, rowAt, lineAt, putLine, linePlace, queueOf}
 use Rattle.ring.specs.declared.Pulse.{Pulse}
 use Rattle.pulses.specs.Pulses.{shortRow}

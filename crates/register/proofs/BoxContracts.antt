@@ -19,7 +19,7 @@ use Rattle.steps.specs.declared.Outcome.the-variants.{Waiting, KeepAlive, Stray
 use Rattle.steps.specs.Cut.{frame, tooLong}
 use Rattle.framing.specs.Reading.{gotOf}
 use Rattle.readings.specs.Readings.{monitorReply, externalReply}
-use Rattle.rows.specs.declared.Line.{Line}
+use Rattle.records.specs.declared.Line.{Line}
 use Rattle.rows.specs.Places.{Board, lineAt}
 use Rattle.laws.proofs.Tests.{by-cases}
 use Rattle.ring.specs.declared.Pulse.{Pulse}

@@ -13,7 +13,7 @@ use mathlib.Core.Option.{none}
 use Prim.Native.Nat.{ℕ, zero, suc}
 use native.Mathlib.Omega.{arith}
 use lib.ListN.{length, take, replicate}
-use Rattle.rows.specs.Rows.{lineIn, shutLine}
+use Rattle.records.specs.Records.{lineIn, shutLine}
 use Rattle.rows.specs.Places.{Board, isConnection, rowAt, lineAt, onRows, linePlace, firstInput, firstRelay, rows}
 use Rattle.rows.proofs.Range.{beyond}
 use Rattle.ring.specs.declared.Pulse.{Pulse}

@@ -13,7 +13,7 @@ use Rattle.steps.specs.Cut.{Got}
 use Rattle.steps.specs.Steps.{start, halfAfter}
 use Rattle.framing.specs.Reading.{Run, gotOf}
 use Rattle.framing.proofs.Turns.{length-run}
-use Rattle.rows.specs.declared.Line.{Line}
+use Rattle.records.specs.declared.Line.{Line}
 use Rattle.pulses.specs.Pulses.{shortRow}
 use Rattle.ring.specs.Ring.{rowAfter}
 use Rattle.connections.specs.Lines.{isOpen, connected, closed}

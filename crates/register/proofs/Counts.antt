@@ -13,10 +13,10 @@ use Rattle.words.proofs.Laws.{Bytes, number-lt}
 use Rattle.steps.specs.Cut.{Got, keepAlive, stray, tooLong, frame}
 use Rattle.judges.specs.declared.Order.{Order}
 use Rattle.judges.specs.declared.Order.the-variants.{Refused, Clock, Monitor, Usage, MonitorOff, MonitorOn, SetClock, Close, Open, Toggle, ClearCount, ClearInputUsage, ClearRelayUsage, Block, PulseRelay, PulseBlock, Read, Write, Enumerate}
-use Rattle.rows.specs.declared.Input.{Input}
-use Rattle.rows.specs.declared.Relay.{Relay}
-use Rattle.rows.specs.declared.Line.{Line}
-use Rattle.rows.specs.Rows.{isOn, word, stateWord, usageWord, externalWord, inputIn, lineIn, shutLine}
+use Rattle.records.specs.declared.Input.{Input}
+use Rattle.records.specs.declared.Relay.{Relay}
+use Rattle.records.specs.declared.Line.{Line}
+use Rattle.records.specs.Records.{isOn, word, stateWord, usageWord, externalWord, inputIn, lineIn, shutLine}
 use Rattle.rows.specs.Places.{Board, isChannel, isRelay, isConnection, rowAt, inputAt, relayAt, putInput, putRelay, putLine, clockSet, onRows}
 use Rattle.rows.specs.Places.{inputPlace, relayPlace, linePlace, firstInput, firstRelay, firstOuter, firstLine, clockRow, queueRow, queueOf, rows, lineAt}
 use Rattle.rows.proofs.Channel.{in-range, channel}

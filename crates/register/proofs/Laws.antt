@@ -23,7 +23,7 @@ use Rattle.laws.proofs.Tests.{by-cases}
 use Rattle.words.specs.Words.{numberAt}
 use Rattle.steps.specs.Cut.{Got, frame}
 use Rattle.framing.specs.Reading.{Run, gotOf}
-use Rattle.rows.specs.Rows.{word}
+use Rattle.records.specs.Records.{word}
 use Rattle.rows.specs.Places.{Board, rowAt, lineAt, clockSet, clockRow}
 use Rattle.ring.specs.declared.Pulse.{Pulse}
 use Rattle.pulses.specs.Pulses.{shortRow, elapsed}

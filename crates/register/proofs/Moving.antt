@@ -9,8 +9,8 @@ use native.Mathlib.Omega.{arith}
 use lib.Dec.{eqb, ltb}
 use lib.ListN.{set}
 use Rattle.laws.proofs.Tests.{by-cases}
-use Rattle.rows.specs.declared.Input.{Input}
-use Rattle.rows.specs.declared.Relay.{Relay}
+use Rattle.records.specs.declared.Input.{Input}
+use Rattle.records.specs.declared.Relay.{Relay}
 use Rattle.rows.specs.Places.{Board, isChannel, isRelay, inputAt, relayAt, putInput, putRelay, clockSet}
 use Rattle.rows.specs.Places.{onRows, inputPlace, relayPlace, firstInput, firstRelay, firstOuter, firstLine, clockRow}
 use Rattle.rows.proofs.Channel.{in-range, relay-range}

@@ -7,8 +7,8 @@ use Prim.Native.Nat.{ℕ}
 use lib.Dec.{eqb, ltb}
 use Rattle.laws.proofs.Tests.{by-cases}
 use Rattle.steps.specs.Cut.{Got, keepAlive, stray, tooLong, frame}
-use Rattle.rows.specs.declared.Input.{Input}
-use Rattle.rows.specs.declared.Relay.{Relay}
+use Rattle.records.specs.declared.Input.{Input}
+use Rattle.records.specs.declared.Relay.{Relay}
 use Rattle.rows.specs.Places.{Board, isChannel, lineAt, queueOf}
 use Rattle.modules.specs.declared.Moved.{Moved}
 use Rattle.modules.specs.Modules.{present, hasModule, unmoved}

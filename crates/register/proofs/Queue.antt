@@ -15,9 +15,9 @@ use Rattle.laws.proofs.Tests.{by-cases}
 use Rattle.steps.specs.Cut.{Got, keepAlive, stray, tooLong, frame}
 use Rattle.judges.specs.declared.Order.{Order}
 use Rattle.judges.specs.declared.Order.the-variants.{Refused, Clock, Monitor, Usage, MonitorOff, MonitorOn, SetClock, Close, Open, Toggle, ClearCount, ClearInputUsage, ClearRelayUsage, Block, PulseRelay, PulseBlock, Read, Write, Enumerate}
-use Rattle.rows.specs.declared.Line.{Line}
-use Rattle.rows.specs.declared.Queue.{Queue}
-use Rattle.rows.specs.Rows.{queueIn, externalWord}
+use Rattle.records.specs.declared.Line.{Line}
+use Rattle.records.specs.declared.Queue.{Queue}
+use Rattle.records.specs.Records.{queueIn, externalWord}
 use Rattle.rows.specs.Places.{Board, isChannel, isConnection, rowAt, lineAt, putLine, onRows, linePlace, firstLine, queueRow, queueOf}
 use Rattle.rows.proofs.Range.{beyond}
 use Rattle.modules.specs.declared.Moved.{Moved}

@@ -15,10 +15,10 @@ use Rattle.laws.proofs.Tests.{by-cases}
 use Rattle.crc.specs.Crc.{crcOf}
 use Rattle.steps.specs.Cut.{frame}
 use Rattle.framing.specs.Reading.{gotOf}
-use Rattle.rows.specs.declared.Line.{Line}
-use Rattle.rows.specs.Rows.{isOn, lineIn, lineWords, shutLine}
+use Rattle.records.specs.declared.Line.{Line}
+use Rattle.records.specs.Records.{isOn, lineIn, lineWords, shutLine}
 use Rattle.rows.specs.Places.{Board, isConnection, rowAt, lineAt, putLine, linePlace}
-use Rattle.rows.proofs.Views.{line-again}
+use Rattle.records.proofs.Views.{line-again}
 use Rattle.modules.specs.Modules.{hasModule}
 use Rattle.connections.specs.Lines.{openedLine, isOpen, isStrict, connected}
 use Rattle.answers.specs.Calls.{refused}

@@ -14,11 +14,11 @@ use Rattle.laws.proofs.Tests.{by-cases}
 use Rattle.steps.specs.Cut.{Got, keepAlive, stray, tooLong, frame}
 use Rattle.judges.specs.declared.Order.{Order}
 use Rattle.judges.specs.declared.Order.the-variants.{Refused, Clock, Monitor, Usage, MonitorOff, MonitorOn, SetClock, Close, Open, Toggle, ClearCount, ClearInputUsage, ClearRelayUsage, Block, PulseRelay, PulseBlock, Read, Write, Enumerate}
-use Rattle.rows.specs.declared.Line.{Line}
+use Rattle.records.specs.declared.Line.{Line}
 use Rattle.rows.specs.Places.{Board, isChannel, isConnection, rowAt, lineAt, putLine, onRows, linePlace, firstLine, queueRow, queueOf}
-use Rattle.rows.specs.Rows.{isOn, lineIn, lineWords, externalWord, shutLine}
+use Rattle.records.specs.Records.{isOn, lineIn, lineWords, externalWord, shutLine}
 use Rattle.rows.proofs.Range.{beyond}
-use Rattle.rows.proofs.Views.{line-again}
+use Rattle.records.proofs.Views.{line-again}
 use Rattle.changes.specs.Levels.{levelOf}
 use Rattle.orders.specs.Orders.{orderOf}
 use Rattle.writes.specs.Writes.{soFar}

@@ -9,7 +9,7 @@ use lib.Dec.{eqb}
 use lib.ListN.{getD}
 use Rattle.laws.specs.Put.{put}
 use Rattle.words.specs.Words.{numberAt}
-use Rattle.rows.specs.Rows.{word}
+use Rattle.records.specs.Records.{word}
 use Rattle.steps.specs.Cut.{Got, keepAlive, stray, tooLong, frame}
 use Rattle.rows.specs.Places.{Board, clockRow, rowAt, inputAt, lineAt}
 use Rattle.halves.specs.Halves.{halfAt}

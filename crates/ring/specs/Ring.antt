@@ -4,7 +4,7 @@ use mathlib.Core.List.{List}
 use Prim.Native.Nat.{ℕ, _+_, _-_, _%_, _^_, min}
 use lib.Dec.{leb, ltb}
 use lib.ListN.{getD, set}
-use Rattle.rows.specs.declared.Queue.{Queue}
+use Rattle.records.specs.declared.Queue.{Queue}
 use Rattle.rows.specs.Places.{Board, isRelay, queueOf}
 use Rattle.ring.specs.declared.Pulse.{Pulse}
 

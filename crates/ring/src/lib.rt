@@ -6,7 +6,7 @@ ghost use mathlib.Core.Path.{_≡_};
 ghost use mathlib.Core.Bool.{cond};
 ghost use Prim.Native.Nat.{_-_, min};
 ghost use Rattle.ring.specs.Ring.{pulseOf, relayPulse, isFull, place, popped, joined, newest, seatOf};
-use rows::Queue;
+use records::Queue;
 use rows::ROWS;
 
 // The masked relays take these states for so many ms.

@@ -1,4 +1,3 @@
 pub mod Channel
 pub mod Range
 pub mod Unique
-pub mod Views

@@ -4,11 +4,11 @@ use mathlib.Core.List.{List, [], _∷_}
 use Prim.Native.Nat.{ℕ, zero, suc, _+_, _-_}
 use lib.Dec.{leb, ltb}
 use lib.ListN.{getD, set}
-use Rattle.rows.specs.declared.Input.{Input}
-use Rattle.rows.specs.declared.Relay.{Relay}
-use Rattle.rows.specs.declared.Line.{Line}
-use Rattle.rows.specs.declared.Queue.{Queue}
-use Rattle.rows.specs.Rows.{word, inputIn, inputWords, relayIn, relayWords, lineIn, lineWords, dueWords, leftWord, queueIn, queueWords, blankInput, blankRelay, shutLine}
+use Rattle.records.specs.declared.Input.{Input}
+use Rattle.records.specs.declared.Relay.{Relay}
+use Rattle.records.specs.declared.Line.{Line}
+use Rattle.records.specs.declared.Queue.{Queue}
+use Rattle.records.specs.Records.{word, inputIn, inputWords, relayIn, relayWords, lineIn, lineWords, dueWords, leftWord, queueIn, queueWords, blankInput, blankRelay, shutLine}
 
 -- the lent board: rows of words, all that the plain machine holds
 abbrev pub Board : Type 0

@@ -3,7 +3,7 @@ use mathlib.Core.Path.{_≡_, refl}
 use Prim.Native.Nat.{ℕ, _+_, _<_}
 use lib.ListN.{getD}
 use Rattle.rows.specs.Places.{Board, inputAt, relayAt}
-use Rattle.rows.specs.Rows.{blankInput, blankRelay}
+use Rattle.records.specs.Records.{blankInput, blankRelay}
 use Rattle.laws.proofs.Channels.{places}
 use Rattle.writers.specs.Writers.{inputsOf, relaysOf}
 

@@ -7,8 +7,8 @@ use lib.Dec.{leb}
 use lib.ListN.{length}
 use Rattle.laws.specs.Put.{put}
 use Rattle.words.specs.Words.{bytesOf}
-use Rattle.rows.specs.declared.Input.{Input}
-use Rattle.rows.specs.declared.Relay.{Relay}
+use Rattle.records.specs.declared.Input.{Input}
+use Rattle.records.specs.declared.Relay.{Relay}
 use Rattle.rows.specs.Places.{Board, inputAt, relayAt}
 
 -- What a writer leaves and answers. Where the lent bytes are as many as the reply can need, `room`, its content vs stands at their front, the

@@ -40,7 +40,7 @@ use denote.Triple.Spec.{Meets, tripleOf}
 use denote.Triple.Table.{entered, cited}
 use denote.Triple.Walked.{Stays, gave-ref, gave-slice, stay-none, walkOf, goes-gave-ref, goes-gave-slice, goes-none, Walks, ends-at, walked, walk-meets}
 use denote.Exit.{yes}
-use Rattle.rows.specs.declared.Queue.{Queue}
+use Rattle.records.specs.declared.Queue.{Queue}
 use Rattle.rows.specs.Places.{Board, rows, queueOf}
 use Rattle.ring.specs.declared.Pulse.{Pulse}
 use Rattle.filling.specs.Filling.{losing, rowWithout, rowEmptied}
@@ -51,8 +51,8 @@ use Rattle.lent.proofs.Calling.{at-value, OwnAt, token, told}
 use Rattle.capi.proofs.Steps.{SeenAt, shows, seen-back, both-said}
 use Rattle.capi.proofs.Types.{board-type, board-slot, board-ref}
 use Rattle.ring.proofs.Pulse as P
-use Rattle.rows.proofs.Queue as Q
-use Rattle.rows.proofs.Queue.Laws as Q′
+use Rattle.records.proofs.Queue as Q
+use Rattle.records.proofs.Queue.Laws as Q′
 use Rattle.pieces.proofs.Done as D
 use Rattle.pieces.proofs.Done.Laws as D′
 use Rattle.rows.proofs.queue_of as queue-of

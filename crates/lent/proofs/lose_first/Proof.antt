@@ -44,7 +44,7 @@ use denote.Triple.Spec.{Meets, tripleOf}
 use denote.Triple.Table.{entered, cited}
 use denote.Triple.Walked.{says, Stays, stay-slice, stay-none, walkOf, goes-slice, goes-none, Walks, ends-at, walked, walk-meets}
 use denote.Exit.{yes}
-use Rattle.rows.specs.declared.Queue.{Queue}
+use Rattle.records.specs.declared.Queue.{Queue}
 use Rattle.ring.specs.declared.Pulse.{Pulse}
 use Rattle.ring.specs.Ring.{pulseAt, place as placeIn}
 use Rattle.filling.specs.Filling.{lost, rowWithout}
@@ -52,8 +52,8 @@ use Rattle.lent.proofs.Calling.{rest-of, token, told, gets}
 use Rattle.lent.proofs.Relent.{at-list, OwnRow, lends-row, row-back}
 use Rattle.lent.proofs.Losing.{none-lost, next-lost, all-lost, length-without}
 use Rattle.ring.proofs.Pulse as P
-use Rattle.rows.proofs.Queue as Q
-use Rattle.rows.proofs.Queue.Laws as Q′
+use Rattle.records.proofs.Queue as Q
+use Rattle.records.proofs.Queue.Laws as Q′
 use Rattle.ring.proofs.place_in as place-in
 use Rattle.ring.proofs.place_in.Symbol as place-in-def
 use Rattle.ring.proofs.place_in.Symbol.{name as #ring·place-in}

@@ -5,7 +5,7 @@ use lib.ListN.{set}
 use Rattle.rows.proofs.Range.{Ranging, range-start, range-turn, range-done}
 use Rattle.marks.specs.Marks.{externalCleared}
 use borrow.Author.Needs.{needs}
-use Rattle.rows.specs.Rows.{externalWord}
+use Rattle.records.specs.Records.{externalWord}
 use Rattle.rows.specs.Places.{firstLine, linePlace}
 use Rattle.marks.proofs.clear_external.Statement.{statement}
 use Rattle.marks.proofs.clear_external.Tie as tie
