@@ -16,7 +16,8 @@ use Rattle.alarms.specs.Alarms.{alarmState, alarmAbove, alarmAtOrAbove}
 use Rattle.changes.specs.Answers.{onInput, onRelay}
 use Rattle.changes.specs.Levels.{levelOf}
 use Rattle.edits.specs.Edits.{told, inputWritten}
-use Rattle.changes.specs.Commands.{masked, blockedRow, blockOf, onPresent}
+use Rattle.changes.specs.Commands.{onPresent}
+use Rattle.blocks.specs.Blocks.{masked, blockedRow, blockOf}
 use Rattle.devices.specs.Devices.{deviceOf}
 use Rattle.changes.specs.Entries.{writeInput}
 use Rattle.layouts.specs.Layouts.{onward, optionally, finished}

@@ -11,12 +11,11 @@ use Rattle.changes.proofs.toggle_relay.Reads as toggle-relay
 use Rattle.changes.proofs.clear_count.Reads as clear-count
 use Rattle.changes.proofs.clear_input_usage.Reads as clear-input-usage
 use Rattle.changes.proofs.clear_relay_usage.Reads as clear-relay-usage
-use Rattle.changes.proofs.block.Reads as block
 use Rattle.changes.proofs.write_input.Reads as write-input
 use Rattle.changes.proofs.write_relay.Reads as write-relay
 use Rattle.changes.proofs.refuse.Reads as refuse
 
-same : {m : Change} {b b′ : Board} {r r′ : Changed} → Makes m b r → Makes m b′ r′ → (r ≡ r′) × (b ≡ b′)
+pub same : {m : Change} {b b′ : Board} {r r′ : Changed} → Makes m b r → Makes m b′ r′ → (r ≡ r′) × (b ≡ b′)
 same p q = (p .gives ∙ sym (q .gives), p .leaves ∙ sym (q .leaves))
 
 pub unique-level : (κs : _) (a : _) (r r′ : _) (s s′ : _) → level.Post κs a r s → level.Post κs a r′ s′ → (r ≡ r′) × (now (s .0) ≡ now (s′ .0))
@@ -45,9 +44,6 @@ unique-clear-input-usage κs a r r′ s s′ p q = same p q
 pub unique-clear-relay-usage : (κs : _) (a : _) (r r′ : _) (s s′ : _) → clear-relay-usage.Post κs a r s → clear-relay-usage.Post κs a r′ s′
     → (r ≡ r′) × (now (s .0) ≡ now (s′ .0))
 unique-clear-relay-usage κs a r r′ s s′ p q = same p q
-
-pub unique-block : (κs : _) (a : _) (r r′ : _) (s s′ : _) → block.Post κs a r s → block.Post κs a r′ s′ → (r ≡ r′) × (now (s .0) ≡ now (s′ .0))
-unique-block κs a r r′ s s′ p q = same p q
 
 pub unique-write-input : (κs : _) (a : _) (r r′ : _) (s s′ : _) → write-input.Post κs a r s → write-input.Post κs a r′ s′
     → (r ≡ r′) × (now (s .0) ≡ now (s′ .0))

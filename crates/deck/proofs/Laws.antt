@@ -27,7 +27,7 @@ use Rattle.rows.specs.Places.{Board, rowAt, relayAt, lineAt, firstRelay, relayP
 use Rattle.rows.proofs.Range.{beyond, set-behind}
 use Rattle.modules.specs.declared.Moved.{Moved}
 use Rattle.modules.specs.Modules.{isPlace, filled, placeRow, placeSet, hasModule}
-use Rattle.changes.specs.Commands.{masked, moves, blockMoved, blockedRow, blockOf}
+use Rattle.blocks.specs.Blocks.{masked, moves, blockMoved, blockedRow, blockOf}
 use Rattle.changes.proofs.Making.{differ-same}
 use Rattle.marks.specs.Marks.{markedRow, watches, anyMoved, marked, externalCleared}
 use Rattle.ring.specs.declared.Pulse.{Pulse}

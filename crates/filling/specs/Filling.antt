@@ -9,7 +9,7 @@ use Rattle.records.specs.declared.Queue.{Queue}
 use Rattle.rows.specs.Places.{Board, queueOf}
 use Rattle.modules.specs.Modules.{isPlace, filled, placeSet, hasModule}
 use Rattle.changes.specs.Answers.{Change}
-use Rattle.changes.specs.Commands.{blockOf}
+use Rattle.blocks.specs.Blocks.{blockOf}
 use Rattle.marks.specs.Marks.{marked, externalCleared}
 use Rattle.ring.specs.declared.Pulse.{Pulse}
 use Rattle.ring.specs.Ring.{pulseOf, pulseAt, standing, place}

@@ -21,7 +21,7 @@ fn fill_place(board: &mut [[u64; 8]; ROWS], place: usize)
     ensures { λ u. ⌜ now (board .exit) ≡ filledAt place (now (board .entry)) ⌝ }
 {
     if !modules::is_filled(board, place) {
-        changes::block(board, module_mask(place), 0);
+        blocks::block(board, module_mask(place), 0);
         modules::set_filled(board, place, true);
     }
 }
@@ -40,7 +40,7 @@ fn empty_place(board: &mut [[u64; 8]; ROWS], place: usize)
     ensures { λ u. ⌜ now (board .exit) ≡ emptiedAt place (now (board .entry)) ⌝ }
 {
     if modules::is_filled(board, place) {
-        let r = changes::block(board, module_mask(place), 0);
+        let r = blocks::block(board, module_mask(place), 0);
         modules::set_filled(board, place, false);
         marks::mark(board, r.changed);
         clear_if_last(board);

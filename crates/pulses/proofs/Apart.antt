@@ -12,7 +12,7 @@ use Rattle.records.specs.Records.{queueIn}
 use Rattle.rows.specs.Places.{Board, rowAt, firstOuter, clockRow, clockSet, firstRelay, firstLine, queueRow, queueOf, leftSet, onRows}
 use Rattle.rows.proofs.Range.{behind, beyond, set-behind}
 use Rattle.tables.specs.Time.{usagePassed, passed}
-use Rattle.changes.specs.Commands.{blockedRow, blockOf}
+use Rattle.blocks.specs.Blocks.{blockedRow, blockOf}
 use Rattle.modules.specs.declared.Moved.{Moved}
 use Rattle.modules.specs.Modules.{hasModule}
 use Rattle.marks.specs.Marks.{markedRow, anyMoved, marked}

@@ -7,7 +7,7 @@ use Rattle.laws.proofs.Tests.{by-cases}
 use Rattle.records.specs.declared.Queue.{Queue}
 use Rattle.rows.specs.Places.{Board, queueRow, queueOf, putQueue, leftSet}
 use Rattle.tables.specs.Time.{passed}
-use Rattle.changes.specs.Commands.{blockOf}
+use Rattle.blocks.specs.Blocks.{blockOf}
 use Rattle.modules.specs.declared.Moved.{Moved}
 use Rattle.marks.specs.Marks.{marked}
 use Rattle.ring.specs.declared.Pulse.{Pulse}

@@ -8,7 +8,7 @@ use Rattle.records.specs.declared.Queue.{Queue}
 use Rattle.rows.specs.Places.{Board, relayAt, queueOf, putQueue, leftSet}
 use Rattle.tables.specs.Time.{passed}
 use Rattle.changes.specs.Answers.{Change}
-use Rattle.changes.specs.Commands.{blockOf}
+use Rattle.blocks.specs.Blocks.{blockOf}
 use Rattle.marks.specs.Marks.{marked}
 use Rattle.ring.specs.declared.Pulse.{Pulse}
 use Rattle.ring.specs.Ring.{pulseAt, runs, place, popped, joined}

@@ -79,7 +79,7 @@ fn states_of(board: &[[u64; 8]; ROWS]) -> u64
 fn switch(board: &mut [[u64; 8]; ROWS], mask: u16, states: u16)
     ensures { λ u. ⌜ now (board .exit) ≡ switched mask states (now (board .entry)) ⌝ }
 {
-    let r = changes::block(board, mask, states);
+    let r = blocks::block(board, mask, states);
     marks::mark(board, r.changed);
 }
 

@@ -24,7 +24,7 @@ use Rattle.rows.specs.Places.{Board, isRelay, rowAt, relayAt, lineAt, firstRela
 use Rattle.rows.specs.Places.{relayPlace, clockRow, firstLine, linePlace, queueRow, queueOf, putQueue, onRows}
 use Rattle.rows.proofs.Range.{beyond}
 use Rattle.laws.specs.Bits.{bitOf}
-use Rattle.changes.specs.Commands.{masked, blocked, moves, blockMoved, blockedRow, blockOf}
+use Rattle.blocks.specs.Blocks.{masked, blocked, moves, blockMoved, blockedRow, blockOf}
 use Rattle.changes.proofs.Making.{differ-same}
 use Rattle.modules.specs.declared.Moved.{Moved}
 use Rattle.modules.specs.Modules.{filled, placeRow, hasModule}

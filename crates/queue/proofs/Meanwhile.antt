@@ -24,7 +24,7 @@ use Rattle.rows.specs.Places.{putInput, putRelay, putLine, clockRow, clockSet, 
 use Rattle.rows.proofs.Channel.{in-range, relay-range}
 use Rattle.rows.proofs.Range.{beyond}
 use Rattle.changes.specs.Answers.{onInput, onRelay}
-use Rattle.changes.specs.Commands.{blockedRow, blockOf}
+use Rattle.blocks.specs.Blocks.{blockedRow, blockOf}
 use Rattle.changes.specs.Entries.{writeInput, writeRelay}
 use Rattle.changes.specs.Levels.{hasLevel, levelOf}
 use Rattle.edits.specs.Edits.{told, inputWritten, relayWritten, relayFails}

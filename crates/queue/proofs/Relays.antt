@@ -21,7 +21,7 @@ use Rattle.rows.proofs.Range.{within, beyond}
 use Rattle.records.proofs.Views.{relay-again}
 use Rattle.records.specs.Held as held
 use Rattle.laws.specs.Bits.{bitOf}
-use Rattle.changes.specs.Commands.{blockedRow, blockOf}
+use Rattle.blocks.specs.Blocks.{blockedRow, blockOf}
 use Rattle.modules.specs.declared.Moved.{Moved}
 use Rattle.modules.specs.Modules.{hasModule}
 use Rattle.marks.specs.Marks.{markedRow, anyMoved, marked}

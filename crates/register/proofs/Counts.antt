@@ -30,7 +30,8 @@ use Rattle.tables.specs.Time.{grown, usagePassed, passed}
 use Rattle.changes.specs.Answers.{onInput, onRelay}
 use Rattle.changes.specs.Levels.{hasLevel, levelOf}
 use Rattle.edits.specs.Edits.{raised, told, countWritten, inputWritten, relayFails}
-use Rattle.changes.specs.Commands.{onPresent, blockedRow, blockOf}
+use Rattle.changes.specs.Commands.{onPresent}
+use Rattle.blocks.specs.Blocks.{blockedRow, blockOf}
 use Rattle.changes.specs.Entries.{writeInput, writeRelay}
 use Rattle.orders.specs.declared.Entry.{Entry}
 use Rattle.orders.specs.Entries.{entryOf}

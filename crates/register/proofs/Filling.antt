@@ -8,7 +8,7 @@ use Rattle.laws.proofs.Tests.{by-cases}
 use Rattle.rows.specs.Places.{Board, firstPlace}
 use Rattle.modules.specs.declared.Moved.{Moved}
 use Rattle.modules.specs.Modules.{isPlace, filled, placeRow, placeSet, hasModule}
-use Rattle.changes.specs.Commands.{blockOf}
+use Rattle.blocks.specs.Blocks.{blockOf}
 use Rattle.marks.specs.Marks.{marked, externalCleared}
 use Rattle.answers.specs.Calls.{Did}
 use Rattle.filling.specs.Filling.{opened, filledAt, lastGone, emptiedAt, placeFilled, placeEmptied}

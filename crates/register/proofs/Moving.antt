@@ -21,7 +21,8 @@ use Rattle.modules.specs.Modules.{present}
 use Rattle.tables.specs.Time.{usagePassed, passed}
 use Rattle.changes.specs.Answers.{onInput, onRelay}
 use Rattle.changes.specs.Levels.{hasLevel, levelOf}
-use Rattle.changes.specs.Commands.{onPresent, blockedRow, blockOf}
+use Rattle.changes.specs.Commands.{onPresent}
+use Rattle.blocks.specs.Blocks.{blockedRow, blockOf}
 use Rattle.changes.specs.Entries.{writeInput, writeRelay}
 use Rattle.edits.specs.Edits.{relayFails}
 use Rattle.orders.specs.declared.Entry.{Entry}

@@ -18,7 +18,8 @@ use Rattle.changes.specs.Answers as tables
 use Rattle.changes.specs.Answers.{onInput, onRelay}
 use Rattle.changes.specs.Levels.{hasLevel, levelOf}
 use Rattle.edits.specs.Edits.{told}
-use Rattle.changes.specs.Commands.{onPresent, blockOf}
+use Rattle.changes.specs.Commands.{onPresent}
+use Rattle.blocks.specs.Blocks.{blockOf}
 use Rattle.judges.specs.declared.Order.{Order}
 use Rattle.judges.specs.declared.Order.the-variants.{Refused, Clock, Monitor, Usage, MonitorOff, MonitorOn, SetClock, Close, Open, Toggle, ClearCount, ClearInputUsage, ClearRelayUsage, Block, PulseRelay, PulseBlock, Read, Write, Enumerate}
 use Rattle.orders.specs.Orders.{orderOf}

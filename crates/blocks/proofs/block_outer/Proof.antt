@@ -1,9 +1,9 @@
--- `changes::block_outer`: a mask of a byte leaves the second deck alone.
+-- `blocks::block_outer`: a mask of a byte leaves the second deck alone.
 use mathlib.Core.Path.{sym, _∙_}
 use native.Mathlib.Omega.{arith}
-use Rattle.changes.proofs.Making.{rows-above, moves-above, none-reached, none-moves}
-use Rattle.changes.proofs.block_outer.Statement.{statement}
-use Rattle.changes.proofs.block_outer.Tie as tie
+use Rattle.blocks.proofs.Masking.{rows-above, moves-above, none-reached, none-moves}
+use Rattle.blocks.proofs.block_outer.Statement.{statement}
+use Rattle.blocks.proofs.block_outer.Tie as tie
 
 pub block-outer-spec : {M : Type 1} → statement M
 block-outer-spec =

@@ -1,15 +1,15 @@
--- `changes::block_deck`: each turn sets one relay in place and asks whether it moved.
+-- `blocks::block_deck`: each turn sets one relay in place and asks whether it moved.
 use Prim.Native.Nat.{_+_, _-_, _<_}
 use mathlib.Core.Path.{_∙_}
 use native.Mathlib.Omega.{arith}
 use Rattle.laws.proofs.Each.{Asking, ask-start, ask-turn, ask-done}
 use Rattle.rows.proofs.Range.{Ranging, range-start, range-turn, range-done}
-use Rattle.changes.specs.Commands.{moves, blockedRow}
-use Rattle.changes.proofs.Making.{masked-row, relay-waits}
+use Rattle.blocks.specs.Blocks.{moves, blockedRow}
+use Rattle.blocks.proofs.Masking.{masked-row, relay-waits}
 use borrow.Author.Needs.{needs}
 use Rattle.rows.specs.Places.{relayAt, firstRelay, relayPlace}
-use Rattle.changes.proofs.block_deck.Statement.{statement}
-use Rattle.changes.proofs.block_deck.Tie as tie
+use Rattle.blocks.proofs.block_deck.Statement.{statement}
+use Rattle.blocks.proofs.block_deck.Tie as tie
 
 abbrev Inv-loop : tie.InvT-loop
 Inv-loop board₀ first mask state changed₀ k₀ board changed k =
