@@ -19,8 +19,10 @@ use Rattle.answers.specs.Calls.{framesOf}
 use Rattle.answers.proofs.Replying.{part-long, given-back}
 use Rattle.records.specs.declared.Line.{Line}
 use Rattle.rows.specs.Places.{Board}
-use Rattle.readings.specs.Readings.{monitorReply, externalReply, externalRoom}
-use Rattle.readings.proofs.Lengths.{length-monitor, length-external}
+use Rattle.readings.specs.Readings.{monitorReply}
+use Rattle.external.specs.External.{externalReply, externalRoom}
+use Rattle.readings.proofs.Lengths.{length-monitor}
+use Rattle.external.proofs.Lengths.{length-external}
 use Rattle.plain.specs.Events.{ifWanted, dueReplies, Behind}
 
 -- the part of a buffer behind `at` bytes

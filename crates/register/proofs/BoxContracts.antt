@@ -18,7 +18,8 @@ use Rattle.steps.specs.declared.Outcome.{Outcome}
 use Rattle.steps.specs.declared.Outcome.the-variants.{Waiting, KeepAlive, Stray, Message}
 use Rattle.steps.specs.Cut.{frame, tooLong}
 use Rattle.framing.specs.Reading.{gotOf}
-use Rattle.readings.specs.Readings.{monitorReply, externalReply}
+use Rattle.readings.specs.Readings.{monitorReply}
+use Rattle.external.specs.External.{externalReply}
 use Rattle.records.specs.declared.Line.{Line}
 use Rattle.rows.specs.Places.{Board, lineAt}
 use Rattle.laws.proofs.Tests.{by-cases}

@@ -22,7 +22,8 @@ use Rattle.judges.specs.declared.Order.the-variants.{Read}
 use Rattle.layouts.specs.Layouts.{onward, finished}
 use Rattle.judges.specs.Judges.{ofReach, ifListed, judgeRead}
 use Rattle.orders.specs.Orders.{readOf, orderOf}
-use Rattle.readings.specs.Readings.{inputBlock, blockOf, entryOf, idsIn, devicesReply, monitorReply, externalReply}
+use Rattle.readings.specs.Readings.{inputBlock, blockOf, entryOf, idsIn, devicesReply, monitorReply}
+use Rattle.external.specs.External.{externalReply}
 use Rattle.readings.proofs.Lengths.{length-monitor}
 use Rattle.connections.specs.Lines.{isStrict}
 use Rattle.answers.specs.Calls.{framed, framesOf}

@@ -28,7 +28,7 @@ use Rattle.orders.specs.Ranges.{Refusal, not-offered, low-rank, out-of-range, b
 use Rattle.orders.proofs.Orders.{refusals}
 use Rattle.marks.specs.Marks.{marked}
 use Rattle.plain.specs.Events.{changedTo, leveled, ifWanted}
-use Rattle.readings.specs.Readings.{externalReply}
+use Rattle.external.specs.External.{externalReply}
 use Rattle.answers.specs.Calls.{Did, refused, refusedAt, framesOf, followedBy, sealing}
 use Rattle.serving.specs.Obeying.{monitorSet, clockTold, pulsed, pulsedRelay, obeyed, followsIt}
 use Rattle.serving.specs.Serving.{servedContent, servedMessage}

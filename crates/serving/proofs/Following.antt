@@ -16,7 +16,7 @@ use Rattle.judges.specs.declared.Order.the-variants.{Toggle, ClearCount, ClearI
 use Rattle.judges.specs.declared.Order.the-variants.{PulseRelay, PulseBlock, Read, Write, Enumerate}
 use Rattle.rows.specs.Places.{Board}
 use Rattle.modules.specs.Modules.{hasModule}
-use Rattle.readings.specs.Readings.{externalReply, externalRoom}
+use Rattle.external.specs.External.{externalReply, externalRoom}
 use Rattle.answers.specs.declared.Served.{Served}
 use Rattle.answers.specs.Calls.{Did, framed, sealing, framesOf, followedBy, servedAt, Does}
 use Rattle.plain.specs.Events.{ifWanted, Behind}

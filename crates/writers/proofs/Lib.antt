@@ -1,2 +1,3 @@
 pub mod Channels
 pub mod Sending
+pub mod Unique

@@ -1,6 +1,6 @@
 -- What every writer of an answer leaves, and the inputs and relays that it goes through in the order of their channels. 01, Messages offered.
 use mathlib.Core.Path.{_≡_}
-use mathlib.Core.Bool.{cond}
+use mathlib.Core.Bool.{Bool, cond}
 use mathlib.Core.List.{List, [], _∷_, map}
 use Prim.Native.Nat.{ℕ}
 use lib.Dec.{leb}
@@ -36,3 +36,11 @@ inputUsage i = bytesOf 8 (i .usage)
 -- 01, What the box holds, 2: a relay's
 abbrev pub relayUsage : Relay → List ℕ
 relayUsage r = bytesOf 8 (r .usage)
+
+-- the byte of a level, a relay's state or an alarm: 1 for on, closed and alarm, else 0, as 000 has it
+abbrev pub oneWhen : Bool → List ℕ
+oneWhen b = cond b 1 0 ∷ []
+
+-- 01, Messages, 1, 1, and 02, M-102, 5: a relay's state
+abbrev pub relayRow : Relay → List ℕ
+relayRow r = oneWhen (r .closed)

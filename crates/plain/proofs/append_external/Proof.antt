@@ -8,8 +8,8 @@ use lib.ListN.{length, take, drop}
 use Rattle.laws.specs.Put.{put}
 use Rattle.laws.proofs.Put.{length-put}
 use Rattle.laws.proofs.Tests.{and-right}
-use Rattle.readings.specs.Readings.{externalReply}
-use Rattle.readings.proofs.Lengths.{length-external}
+use Rattle.external.specs.External.{externalReply}
+use Rattle.external.proofs.Lengths.{length-external}
 use Rattle.answers.proofs.Replying.{part-long, given-back}
 use Rattle.plain.proofs.Replying.{sent-yes}
 use Rattle.plain.proofs.Frames.{framed}

@@ -5,7 +5,8 @@ use native.Mathlib.Omega.{arith}
 use Rattle.laws.proofs.Rows.{Writing, begin, row-turn, end}
 use Rattle.modules.specs.Modules.{secondDeck}
 use Rattle.replies.specs.Replies.{presentRow}
-use Rattle.replies.proofs.Places.{deck-place, present-short}
+use Rattle.modules.proofs.Outputs.{deck-place}
+use Rattle.replies.proofs.Places.{present-short}
 use borrow.Author.Needs.{needs}
 use Rattle.replies.proofs.write_outputs.Statement.{statement}
 use Rattle.replies.proofs.write_outputs.Tie as tie

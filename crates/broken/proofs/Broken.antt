@@ -24,9 +24,9 @@ use Rattle.ring.specs.Ring.{rowAfter}
 use Rattle.powerup.specs.PowerUp.{poweredUp}
 use Rattle.halves.specs.Halves.{halfAt, putHalf}
 use Rattle.pieces.specs.Pieces.{bytesCall, halvesAfter, roomsAfter}
 use Rattle.cases.specs.Starred.{Row}
-use Rattle.cases.specs.Broken.{fieldCases, listCases, brokenCases}
+use Rattle.broken.specs.Broken.{fieldCases, listCases, brokenCases}
 use Rattle.cases.proofs.Starred.{Holds, both}
 
 field-layouts : Holds fieldCases
 unfolding fieldCases relayAt putRelay onRelay onward optionally finished ofReach inRange ifSized sizedRequest requestKnown judgeRequest judgeSetClock

@@ -1,11 +1,11 @@
--- `readings::write_state`: a byte, or nothing.
+-- `external::write_state`: a byte, or nothing.
 use mathlib.Core.Path.{sym, _∙_}
 use native.Mathlib.Nat.{add-zero}
 use Rattle.laws.proofs.Put.{put-none}
 use Rattle.writers.proofs.Sending.{byte-is}
 use borrow.Author.Needs.{needs}
-use Rattle.readings.proofs.write_state.Statement.{statement}
-use Rattle.readings.proofs.write_state.Tie as tie
+use Rattle.external.proofs.write_state.Statement.{statement}
+use Rattle.external.proofs.write_state.Tie as tie
 
 pub write-state-spec : {M : Type 1} → statement M
 write-state-spec =

@@ -1,4 +1,4 @@
--- `readings::write_external`: type, no inputs and the count, a state for each present output, and the clock.
+-- `external::write_external`: type, no inputs and the count, a state for each present output, and the clock.
 use mathlib.Core.Path.{_≡_, sym}
 use mathlib.Core.List.{List, _++_}
 use Prim.Native.Nat.{ℕ, _≤_}
@@ -12,12 +12,13 @@ use Rattle.rows.specs.Places.{Board, relayAt, clockOf}
 use Rattle.modules.specs.Modules.{secondDeck, outputs}
 use Rattle.modules.proofs.Outputs.{rows-present, outputs-few}
 use Rattle.writers.proofs.Sending.{sent, unsent, byte-of}
-use Rattle.readings.specs.Readings.{relayRow, presentState, externalReply}
-use Rattle.readings.proofs.Lengths.{external-states}
+use Rattle.writers.specs.Writers.{relayRow}
+use Rattle.external.specs.External.{presentState, externalReply}
+use Rattle.external.proofs.Lengths.{external-states}
 use borrow.Author.Needs.{needs}
 use denote.Ref.{now}
-use Rattle.readings.proofs.write_external.Statement.{statement}
-use Rattle.readings.proofs.write_external.Tie as tie
+use Rattle.external.proofs.write_external.Statement.{statement}
+use Rattle.external.proofs.write_external.Tie as tie
 
 -- the states, as the loop writes them
 states : (t : Board) → rows (λ k. relayRow (relayAt k t)) (outputs t) ≡ rows (presentState t) secondDeck

@@ -1,15 +1,15 @@
--- `readings::write_states`: a turn for each relay of the second deck.
+-- `external::write_states`: a turn for each relay of the second deck.
 use mathlib.Core.Path.{refl}
 use Prim.Native.Nat.{_-_}
 use native.Mathlib.Omega.{arith}
 use Rattle.laws.proofs.Rows.{Writing, begin, row-turn, end}
 use Rattle.modules.specs.Modules.{secondDeck}
-use Rattle.readings.specs.Readings.{presentState}
-use Rattle.replies.proofs.Places.{deck-place}
-use Rattle.readings.proofs.Places.{state-short}
+use Rattle.external.specs.External.{presentState}
+use Rattle.modules.proofs.Outputs.{deck-place}
+use Rattle.external.proofs.Lengths.{state-short}
 use borrow.Author.Needs.{needs}
-use Rattle.readings.proofs.write_states.Statement.{statement}
-use Rattle.readings.proofs.write_states.Tie as tie
+use Rattle.external.proofs.write_states.Statement.{statement}
+use Rattle.external.proofs.write_states.Tie as tie
 
 abbrev Inv-loop : tie.InvT-loop
 Inv-loop out₀ at board p₀ k₀ out p k = Writing (presentState board) 1 at 8 secondDeck out₀ out p k
