@@ -1,4 +1,5 @@
-// Relays that take their states by a mask, on both decks: action 10, a pulse's beginning and end, a module that is pulled. Every board and mask.
+// Relays that take their states by a mask, on both decks: action 10, a pulse's beginning and end, a module that comes or is pulled. It takes
+// every board and every mask.
 
 ghost use mathlib.Core.Path.{_≡_};
 ghost use mathlib.Core.Bool.{_||_, cond};

@@ -1,4 +1,4 @@
--- What a change makes: nothing.
+-- Calls that change nothing: refused, or served where it was so already.
 use mathlib.Core.Path.{_≡_, refl}
 use mathlib.Core.Bool.{Bool, true, false}
 use Rattle.rows.specs.Places.{Board}
