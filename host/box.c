@@ -87,7 +87,7 @@ uint64_t box_next(const box *b)
     return queue->standing > 0 ? b->told + queue->left : UINT64_MAX;
 }
 
-const wellacorn_pulse *box_pulse(const box *b, size_t first, size_t i)
+const wellacorn_pulse *box_pulse(const box *b, uint64_t first, uint64_t i)
 {
     return &b->lent.row[(first + i) % WELLACORN_PULSES];
 }
@@ -170,7 +170,7 @@ came box_bytes(box *b, uint8_t c, const uint8_t *piece, size_t n)
     wellacorn_done done = wellacorn_box_bytes(&b->lent, c, piece, n, b->reply, sizeof b->reply);
     if (b->trace != NULL) {
         fprintf(b->trace, "bytes %u %zu ", c, sizeof b->reply);
-        trace_hex(b->trace, piece, done.taken);
+        trace_hex(b->trace, piece, (size_t)done.taken);
     }
     return (came){.done = done, .read = got + done.taken, .switched = closed ^ closed_relays(b)};
 }
@@ -192,7 +192,7 @@ bool box_due(const box *b, uint8_t c)
 size_t box_content(const box *b, uint8_t c, const came *it, const uint8_t **content)
 {
     *content = b->lent.rooms + (size_t)WELLACORN_CONTENT * c;
-    return it->read > HEADER && it->read <= HEADER + WELLACORN_CONTENT ? it->read - HEADER : 0;
+    return it->read > HEADER && it->read <= HEADER + WELLACORN_CONTENT ? (size_t)it->read - HEADER : 0;
 }
 
 /* ---- What the host itself says. */

@@ -16,16 +16,16 @@ typedef struct {
 /* What a call of box_bytes came to. */
 typedef struct {
     wellacorn_done done;
-    size_t read;                        /* bytes of the message that were taken, in this call and earlier ones */
+    uint64_t read;                      /* bytes of the message that were taken, in this call and earlier ones */
     unsigned switched;                  /* the relays that really changed, relay 1 the lowest bit */
 } came;
 
 /* What a telling of the time came to: so many pulses ended, and behind each the next began, as long as one waited. Their records stand in
  * the row still. */
 typedef struct {
-    size_t first;                       /* the place in the row of the first that ended */
-    size_t stood;                       /* how many stood before */
-    size_t ended;
+    uint64_t first;                     /* the place in the row of the first that ended */
+    uint64_t stood;                     /* how many stood before */
+    uint64_t ended;
     unsigned switched;                  /* the relays that are not as they were before, relay 1 the lowest bit */
 } passed;
 
@@ -46,7 +46,7 @@ passed box_time(box *b, uint64_t now);
 uint64_t box_next(const box *b);
 
 /* The i-th pulse behind the place `first` of the row, the one at that place being the 0th. */
-const wellacorn_pulse *box_pulse(const box *b, size_t first, size_t i);
+const wellacorn_pulse *box_pulse(const box *b, uint64_t first, uint64_t i);
 
 /* The second deck. A module has so many relays; the first relay of a module at a place, and the place of a relay from 9 to 16. */
 enum { BOX_MODULE = 4 };

@@ -225,8 +225,8 @@ static void serve(host *h, uint8_t c)
     for (int i = 0; i < TURN && can_serve(h, c); i++) {
         size_t n = line_untaken(l, &piece);
         came it = box_bytes(&h->box, c, piece, n);
-        line_took(l, it.done.taken);
-        line_queue(l, h->box.reply, it.done.len);
+        line_took(l, (size_t)it.done.taken);
+        line_queue(l, h->box.reply, (size_t)it.done.len);
         if (!begins_login(h, c, &it) && !answers_custom(h, c, &it)) {
             told_bytes(&h->heard[c], &h->box, c, &it);
             custom_heard(&h->last_refused, &h->box, c, &it, h->now);
@@ -246,7 +246,7 @@ static void collect(host *h, uint8_t c)
 {
     if (can_collect(h, c)) {
         wellacorn_done done = box_collect(&h->box, c);
-        line_queue(&h->lines[c], h->box.reply, done.len);
+        line_queue(&h->lines[c], h->box.reply, (size_t)done.len);
     }
 }
 

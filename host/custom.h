@@ -32,7 +32,7 @@ typedef struct {
     uint8_t type;
     uint8_t connection;
     uint8_t answer;
-    size_t place;
+    uint64_t place;
     uint64_t at;                /* ms since power-up */
 } refusal;
 

@@ -7,6 +7,7 @@
 #ifndef ENGINE_H
 #define ENGINE_H
 
+#include "watch.h"
 #include "wellacorn.h"
 
 #ifdef ENGINE_PEER
@@ -18,9 +19,9 @@ typedef peer_pulse engine_pulse;
 typedef struct {
     peer_box box;
     uint8_t answer;
-    size_t taken;
-    size_t place;
-    size_t len;
+    uint64_t taken;
+    uint64_t place;
+    uint64_t len;
 } engine;
 
 static inline void engine_power_up(engine *e, const wellacorn_settings *s)
@@ -143,13 +144,17 @@ typedef struct {
     wellacorn_half halves[WELLACORN_CONNECTIONS];
     uint8_t rooms[WELLACORN_ROOMS];
     uint8_t answer;
-    size_t taken;
-    size_t place;
-    size_t len;
+    uint64_t taken;
+    uint64_t place;
+    uint64_t len;
 } engine;
 
+/* Power-up writes the whole board. Halves and rooms are written when they are used. */
 static inline void engine_power_up(engine *e, const wellacorn_settings *s)
 {
+    watch_unwritten(&e->board, sizeof e->board);
+    watch_unwritten(e->halves, sizeof e->halves);
+    watch_unwritten(e->rooms, sizeof e->rooms);
     wellacorn_power_up(&e->board, *s);
 }
 

@@ -44,7 +44,7 @@ static void show_accepted(wellacorn_pulse *row, uint64_t standing)
 {
     const wellacorn_queue queue = engine_queue(&box);
     if (queue.standing > standing) {
-        size_t place = (queue.first + standing) % WELLACORN_PULSES;
+        uint64_t place = (queue.first + standing) % WELLACORN_PULSES;
         row[place] = engine_pulse_in(&pulses[place]);
     }
 }
@@ -61,26 +61,26 @@ wellacorn_done wellacorn_level(wellacorn_board *board, uint8_t k, uint8_t v)
     return told(board);
 }
 
-wellacorn_done wellacorn_pass(wellacorn_board *board, const wellacorn_pulse *row, size_t records, uint32_t d)
+wellacorn_done wellacorn_pass(wellacorn_board *board, const wellacorn_pulse *row, uint64_t records, uint32_t d)
 {
     (void)row;
-    engine_pass(&box, pulses, records, d);
+    engine_pass(&box, pulses, (size_t)records, d);
     return told(board);
 }
 
-wellacorn_done wellacorn_fill(wellacorn_board *board, const wellacorn_pulse *row, size_t records, uint8_t place)
+wellacorn_done wellacorn_fill(wellacorn_board *board, const wellacorn_pulse *row, uint64_t records, uint8_t place)
 {
     (void)row;
-    engine_fill(&box, pulses, records, place);
+    engine_fill(&box, pulses, (size_t)records, place);
     return told(board);
 }
 
-wellacorn_done wellacorn_empty(wellacorn_board *board, wellacorn_pulse *row, size_t records, uint8_t place)
+wellacorn_done wellacorn_empty(wellacorn_board *board, wellacorn_pulse *row, uint64_t records, uint8_t place)
 {
     const wellacorn_queue queue = engine_queue(&box);
-    engine_empty(&box, pulses, records, place);
+    engine_empty(&box, pulses, (size_t)records, place);
     for (size_t i = 0; box.answer == WELLACORN_SERVED && i < queue.standing; i++) {
-        size_t at = (queue.first + i) % WELLACORN_PULSES;
+        uint64_t at = (queue.first + i) % WELLACORN_PULSES;
         row[at] = engine_pulse_in(&pulses[at]);
     }
     return told(board);
@@ -105,17 +105,17 @@ wellacorn_done wellacorn_close(wellacorn_board *board, wellacorn_half halves[WEL
 }
 
 wellacorn_done wellacorn_bytes(wellacorn_board *board, wellacorn_half halves[WELLACORN_CONNECTIONS], uint8_t rooms[WELLACORN_ROOMS],
-                               wellacorn_pulse *row, size_t records, uint8_t c, const uint8_t *piece, size_t piece_len, uint8_t *reply,
-                               size_t reply_len)
+                               wellacorn_pulse *row, uint64_t records, uint8_t c, const uint8_t *piece, uint64_t piece_len, uint8_t *reply,
+                               uint64_t reply_len)
 {
     uint64_t standing = engine_queue(&box).standing;
-    engine_bytes(&box, pulses, records, c, piece, piece_len, reply, reply_len);
+    engine_bytes(&box, pulses, (size_t)records, c, piece, (size_t)piece_len, reply, (size_t)reply_len);
     if (c < WELLACORN_CONNECTIONS) {
-        size_t read = halves[c].got + box.taken;
+        uint64_t read = halves[c].got + box.taken;
         if (read > HEADER && read <= HEADER + WELLACORN_CONTENT) {
             /* The peer serves a message that lies whole in the piece from there, and leaves its room as it is. */
             const uint8_t *content = halves[c].got == 0 ? piece + HEADER : box.box.connections[c].room;
-            memcpy(rooms + (size_t)WELLACORN_CONTENT * c, content, read - HEADER);
+            memcpy(rooms + (size_t)WELLACORN_CONTENT * c, content, (size_t)read - HEADER);
         }
         halves[c] = engine_half(&box, c);
     }
@@ -124,9 +124,9 @@ wellacorn_done wellacorn_bytes(wellacorn_board *board, wellacorn_half halves[WEL
     return came_to();
 }
 
-wellacorn_done wellacorn_collect(wellacorn_board *board, uint8_t c, uint8_t *reply, size_t reply_len)
+wellacorn_done wellacorn_collect(wellacorn_board *board, uint8_t c, uint8_t *reply, uint64_t reply_len)
 {
-    engine_collect(&box, c, reply, reply_len);
+    engine_collect(&box, c, reply, (size_t)reply_len);
     show(board);
     return came_to();
 }

@@ -291,6 +291,11 @@ static engine_pulse shared[RECORDS], too_short[RECORDS];
 static engine_pulse shared_before[RECORDS], too_short_before[RECORDS];
 static wellacorn_queue queue_before;
 
+static engine_pulse *row_of(size_t records)
+{
+    return records < WELLACORN_PULSES ? too_short : shared;
+}
+
 /* The row that is lent for a call. */
 static engine_pulse *lend_row(size_t records)
 {
@@ -298,7 +303,13 @@ static engine_pulse *lend_row(size_t records)
     memcpy(shared_before, shared, sizeof shared);
     memcpy(too_short_before, too_short, sizeof too_short);
     queue_before = engine_queue(&box);
-    return records < WELLACORN_PULSES ? too_short : shared;
+    watch_lend(row_of(records), records * sizeof(engine_pulse), sizeof shared);
+    return row_of(records);
+}
+
+static void take_row_back(size_t records)
+{
+    watch_take_back(row_of(records), records * sizeof(engine_pulse), sizeof shared);
 }
 
 static bool rows_differ(void)
@@ -310,7 +321,7 @@ static bool rows_differ(void)
 static bool row_spoilt(void)
 {
     if (engine_queue(&box).standing == queue_before.standing + 1) {
-        size_t place = (queue_before.first + queue_before.standing) % WELLACORN_PULSES;
+        uint64_t place = (queue_before.first + queue_before.standing) % WELLACORN_PULSES;
         shared_before[place] = shared[place];
     }
     return rows_differ();
@@ -335,6 +346,7 @@ static bool pass(const word *words, size_t n)
         return false;
     }
     engine_pass(&box, lend_row(records), records, d);
+    take_row_back(records);
     print_number(box.answer);
     if (row_spoilt()) {
         print_text(" spoilt");
@@ -356,6 +368,7 @@ static bool fill(const word *words, size_t n)
         return false;
     }
     engine_fill(&box, lend_row(records), records, place);
+    take_row_back(records);
     print_number(box.answer);
     if (rows_differ()) {
         print_text(" spoilt");
@@ -377,6 +390,7 @@ static bool empty(const word *words, size_t n)
     }
     bool takes_out = records >= WELLACORN_PULSES && is_filled(place);
     engine_empty(&box, lend_row(records), records, place);
+    take_row_back(records);
     print_number(box.answer);
     if (takes_out ? row_spoilt_without(place) : rows_differ()) {
         print_text(" spoilt");
@@ -385,16 +399,26 @@ static bool empty(const word *words, size_t n)
 }
 
 /* The reply buffer of `cap` bytes before a call, and as many behind it as are watched. */
-static void fill_reply(size_t cap)
+static void lend_reply(size_t cap)
 {
     memset(reply, FILL, cap + GUARD);
+    watch_unwritten(reply, cap);
+    watch_lend(reply, cap, sizeof reply);
+}
+
+/* What is in the reply buffer after a call. A length beyond the buffer is no reply's. */
+static size_t take_reply_back(size_t cap)
+{
+    size_t len = box.len <= cap ? (size_t)box.len : cap;
+    watch_take_back(reply, len, sizeof reply);
+    return len;
 }
 
 /* Reply length, reply, and whether a byte outside the reply has changed, or something else is `spoilt`. A length beyond the buffer is no
  * reply's, so it is spoilt too. */
 static void print_reply(size_t cap, bool spoilt)
 {
-    size_t shown = box.len <= cap ? box.len : cap;
+    size_t shown = take_reply_back(cap);
     uint8_t changed = 0;        /* bits, not a bool: this is the tool's longest loop, and compilers make wide steps of it so */
     for (size_t i = shown; i < cap + GUARD; i++) {
         changed |= reply[i] ^ FILL;
@@ -415,7 +439,7 @@ static bool collect(const word *words, size_t n)
     if (n != 2 || !byte(words[0], &c) || !capacity(words[1], &cap)) {
         return false;
     }
-    fill_reply(cap);
+    lend_reply(cap);
     engine_collect(&box, c, reply, cap);
     print_number(box.answer);
     print_reply(cap, false);
@@ -429,8 +453,11 @@ static bool bytes(const word *words, size_t n)
     if (n < 3 || !byte(words[0], &c) || !capacity(words[1], &cap) || !read_piece(words[2]) || !row_length(words, n, 3, &records)) {
         return false;
     }
-    fill_reply(cap);
+    lend_reply(cap);
+    watch_lend(piece, piece_len, sizeof piece);
     engine_bytes(&box, lend_row(records), records, c, piece, piece_len, reply, cap);
+    watch_take_back(piece, piece_len, sizeof piece);
+    take_row_back(records);
     print_number(box.answer);
     print_char(' ');
     print_number(box.taken);

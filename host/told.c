@@ -210,11 +210,11 @@ static const char *layout_words(uint8_t type)
 static void add_length(words *w, const uint8_t *content, const wellacorn_done *done)
 {
     if (done->answer == WELLACORN_ENDS_EARLY) {
-        add(w, "it ends too early at byte %zu", done->place);
+        add(w, "it ends too early at byte %" PRIu64, done->place);
     } else if (done->answer == WELLACORN_LEFT_OVER) {
-        add(w, "bytes are left over from byte %zu on", done->place);
+        add(w, "bytes are left over from byte %" PRIu64 " on", done->place);
     } else {
-        add(w, "its list of %u is cut at byte %zu", two_at(content + 1), done->place);
+        add(w, "its list of %u is cut at byte %" PRIu64, two_at(content + 1), done->place);
     }
     add(w, " (its type is byte 0). It should have %s", layout_words(content[0]));
 }
@@ -279,7 +279,7 @@ static void told_message(const box *b, uint8_t c, const came *it)
         add_served(&w, b, content);
         add_switched(&w, b, it->switched);
     } else if (it->done.answer == WELLACORN_TOO_LONG) {
-        add(&w, "sent a message of %zu bytes, swallowed (%d): the longest is 1,024", it->read - 5, WELLACORN_TOO_LONG);
+        add(&w, "sent a message of %" PRIu64 " bytes, swallowed (%d): the longest is 1,024", it->read - 5, WELLACORN_TOO_LONG);
     } else {
         add_refused(&w, b, content, n, &it->done, b->lent.board.lines[c].strict != 0);
     }

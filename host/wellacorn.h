@@ -1,7 +1,8 @@
 /* The box's side of the JNIOR binary protocol, as a C or C++ host calls it.
  *
- * The functions stand in the static archive libcapi.a, for x86-64 Linux. Each takes every input, ends, keeps no memory of its own and
- * calls nothing back: all that the box holds is in what the host lends, and a call changes it in place.
+ * The functions stand in the static archive libwellacorn.a, for Linux on x86-64 or aarch64. Each takes every input, ends, keeps no memory of its
+ * own and calls nothing back: all that the box holds is in what the host lends, and a call changes it in place. Arguments are numbers and pointers,
+ * and a struct goes by value only where it has more than 16 bytes; lengths have 64 bits on every machine.
  *
  *     static wellacorn_box box;
  *     static uint8_t reply[WELLACORN_REPLY];
@@ -175,9 +176,9 @@ typedef struct {
 /* ---- What a call came to */
 
 typedef struct {
-    size_t taken;               /* bytes taken of the piece; an event and a collection take none */
-    size_t len;                 /* the reply's length, the five header bytes of each of its frames included; 0 for no reply */
-    size_t place;               /* with ENDS_EARLY and LIST_CUT the content's length, where the first missing byte would stand; with LEFT_OVER where
+    uint64_t taken;             /* bytes taken of the piece; an event and a collection take none */
+    uint64_t len;               /* the reply's length, the five header bytes of each of its frames included; 0 for no reply */
+    uint64_t place;             /* with ENDS_EARLY and LIST_CUT the content's length, where the first missing byte would stand; with LEFT_OVER where
                                    the first surplus byte stands; the content's type byte is 0; with every other answer 0 */
     uint8_t answer;             /* the answer number */
 } wellacorn_done;
@@ -199,18 +200,18 @@ wellacorn_done wellacorn_level(wellacorn_board *board, uint8_t k, uint8_t v);
  * is read only. Answers SERVED, or SHORT_BUFFER for a row under WELLACORN_PULSES records.
  *
  * A relay that a pulse has closed is closed until this call says that its time is over: `queue.left` of the board says when that is. */
-wellacorn_done wellacorn_pass(wellacorn_board *board, const wellacorn_pulse *row, size_t records, uint32_t d);
+wellacorn_done wellacorn_pass(wellacorn_board *board, const wellacorn_pulse *row, uint64_t records, uint32_t d);
 
 /* A relay module stands at a place from now on: at place 1 with relays 9 to 12, at place 2 with relays 13 to 16, all of them open. Nothing becomes
  * due by it, and of the row only the length counts. A place that is filled already stays as it is. Answers SERVED, SHORT_BUFFER for a row under
  * WELLACORN_PULSES records, or OUT_OF_RANGE for another place. */
-wellacorn_done wellacorn_fill(wellacorn_board *board, const wellacorn_pulse *row, size_t records, uint8_t place);
+wellacorn_done wellacorn_fill(wellacorn_board *board, const wellacorn_pulse *row, uint64_t records, uint8_t place);
 
 /* The module at a place is gone. Its relays read open, which is a change if one of them was closed; it makes External Monitor due only where the other
  * module is still there. Without any module External Monitor is due to nobody. The pulses that stand, the running one too, lose these relays from
  * their masks, and keep their places, their times and their other relays; nothing else of the row is written to. A place that is empty already stays
  * as it is, and so does the row. Answers as wellacorn_fill. */
-wellacorn_done wellacorn_empty(wellacorn_board *board, wellacorn_pulse *row, size_t records, uint8_t place);
+wellacorn_done wellacorn_empty(wellacorn_board *board, wellacorn_pulse *row, uint64_t records, uint8_t place);
 
 /* Opens connection c at a rank: at a message start, with Monitor on, and due at rank 1 or 2; so is External Monitor if a module is there. `strict` is
  * 0 for a connection on which a sent checksum of 0xFFFF passes unchecked, as the protocol has it; with any other value none does, and the connection
@@ -234,13 +235,13 @@ wellacorn_done wellacorn_close(wellacorn_board *board, wellacorn_half halves[WEL
  *
  * Answers every number but ALREADY_OPEN and BAD_RANK. */
 wellacorn_done wellacorn_bytes(wellacorn_board *board, wellacorn_half halves[WELLACORN_CONNECTIONS], uint8_t rooms[WELLACORN_ROOMS],
-                               wellacorn_pulse *row, size_t records, uint8_t c, const uint8_t *piece, size_t piece_len, uint8_t *reply,
-                               size_t reply_len);
+                               wellacorn_pulse *row, uint64_t records, uint8_t c, const uint8_t *piece, uint64_t piece_len, uint8_t *reply,
+                               uint64_t reply_len);
 
 /* Collects on connection c what is due, of the state now: a Monitor message, an External Monitor message, or the first and behind it the second, each
  * a whole frame, `len` bytes in all. Neither is due any longer then: SERVED. If nothing is due: WAITING. However much has changed since the last ones,
  * it is one of each. The reply buffer is as in wellacorn_bytes. Answers also NO_CONNECTION or SHORT_BUFFER. */
-wellacorn_done wellacorn_collect(wellacorn_board *board, uint8_t c, uint8_t *reply, size_t reply_len);
+wellacorn_done wellacorn_collect(wellacorn_board *board, uint8_t c, uint8_t *reply, uint64_t reply_len);
 
 /* ---- The box in one piece: all that is lent, and the same calls on it. What a later version lends besides is added here, and a host that
  * uses these stays as it is. */
@@ -287,13 +288,13 @@ static inline wellacorn_done wellacorn_box_close(wellacorn_box *box, uint8_t c)
     return wellacorn_close(&box->board, box->halves, c);
 }
 
-static inline wellacorn_done wellacorn_box_bytes(wellacorn_box *box, uint8_t c, const uint8_t *piece, size_t piece_len, uint8_t *reply,
-                                                 size_t reply_len)
+static inline wellacorn_done wellacorn_box_bytes(wellacorn_box *box, uint8_t c, const uint8_t *piece, uint64_t piece_len, uint8_t *reply,
+                                                 uint64_t reply_len)
 {
     return wellacorn_bytes(&box->board, box->halves, box->rooms, box->row, WELLACORN_PULSES, c, piece, piece_len, reply, reply_len);
 }
 
-static inline wellacorn_done wellacorn_box_collect(wellacorn_box *box, uint8_t c, uint8_t *reply, size_t reply_len)
+static inline wellacorn_done wellacorn_box_collect(wellacorn_box *box, uint8_t c, uint8_t *reply, uint64_t reply_len)
 {
     return wellacorn_collect(&box->board, c, reply, reply_len);
 }
@@ -305,7 +306,6 @@ static inline wellacorn_done wellacorn_box_collect(wellacorn_box *box, uint8_t c
 #define WELLACORN_PLACE(type, field, place) static_assert(offsetof(type, field) == (place), #type "." #field " is not at " #place)
 
 static_assert(sizeof(bool) == 1, "a bool is one byte");
-static_assert(sizeof(size_t) == 8, "a size_t is eight bytes");
 
 WELLACORN_SIZE(wellacorn_input, WELLACORN_ROW);
 WELLACORN_PLACE(wellacorn_input, level, 0);

@@ -55,7 +55,7 @@ static workload_tally drain(const uint8_t *bytes, size_t n, size_t step, size_t 
     (void)step;
     workload_tally t = {0};
     for (; times > 0; times--) {
-        for (size_t at = 0; at < n; at += box.taken) {
+        for (size_t at = 0; at < n; at += (size_t)box.taken) {
             offer(&t, bytes + at, n - at);
             if (box.taken == 0) {
                 break;      /* never of an open connection; the sums will differ */

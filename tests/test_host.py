@@ -1237,7 +1237,6 @@ class Arguments(Case):
             said = self.refused("--listen", f"127.0.0.1:{host.port}")
             self.assertIn("Another box may be running: end it, or choose another port", said)
 
-    @unittest.skipUnless(os.uname().machine == "x86_64", "an emulator needs files of its own")
     def test_too_few_files(self):
         """Where the system allows too few open files to wait for clients, the box says so and ends."""
         shell = ["bash", "-c", 'ulimit -n 12; exec "$@"', "bash", os.path.join(ROOT, "host", "exec"), PROGRAM, "--quiet", "--listen", "127.0.0.1:0"]
