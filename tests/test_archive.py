@@ -114,6 +114,13 @@ class Refused(unittest.TestCase):
                 why = why_refused(archive.held_to_the_proved, archive.Kit(), X86_WORDS, text, Path(work))
                 self.assertEqual(refused, why is not None and "it is not what was proved" in why)
 
+    def test_plain_kit(self):
+        """The toolchain over the plain kit, with no script in clang's place, makes the same archive as the run that kept the module."""
+        kept = archive.archive_of(archive.X86).read_bytes()
+        archive.PROVED.unlink()
+        subprocess.run(["rt", "staticlib", archive.CRATE], stdout=subprocess.DEVNULL, check=True)
+        self.assertTrue(archive.PROVED.read_bytes() == kept)
+
 
 # ---------------------------------------------------------------------------------------------
 # What is exported
