@@ -10,11 +10,13 @@ import importlib.machinery
 import importlib.util
 import os
 import re
+import shutil
 import subprocess
 import sys
 import tempfile
 import unittest
 from pathlib import Path
+from unittest import mock
 
 ROOT = Path(__file__).resolve().parent.parent
 sys.path.insert(0, str(ROOT / "tests"))
@@ -75,7 +77,7 @@ ODD = {
     "another memory": ("alloca i16,", "alloca i16, addrspace(5),", "addrspace"),
     "another convention": ("define internal noundef ", "define internal fastcc noundef ", "fastcc"),
     "a struct by value inside": ("(i32 noundef %a0) #0 {", "(ptr byval([24 x i8]) %a0) #0 {", "byval"),
-    "a struct": (A_LINE, A_LINE + "  %s = alloca { i8, ptr }, align 8\n  %t = insertvalue { i8, ptr } undef, i8 0, 0\n", "insertvalue"),
+    "a struct": (A_LINE, A_LINE + "  %s = alloca { i8, ptr }, align 8\n", "{"),
     "an exported function called": ('call void @"capi::wellacorn_power_up"(', "call void @wellacorn_power_up(", "@wellacorn_power_up"),
     "an exported bool": (LEVEL, LEVEL.replace("i8 noundef %a2", "i1 noundef zeroext %a2"), "wellacorn_level takes"),
     "an exported number with a sign": (LEVEL, LEVEL.replace("i8 noundef %a2", "i8 noundef signext %a2"), "wellacorn_level takes"),
@@ -104,15 +106,18 @@ class Refused(unittest.TestCase):
         for word in ("-mavx2", "-ffast-math", "-O2", "-march=x86-64-v3", "--target=i686-linux-gnu"):
             self.assertIn(word, why_refused(archive.words_for, archive.ARM, WORDS + [word]) or "")
 
-    def test_another_module(self):
-        """With one number changed it is not what was proved, and with none it is."""
-        for old, new, refused in (", 49153", ", 49153", False), (", 49153", ", 49154", True):
-            self.assertEqual(1, MODULE.count(old))
-            with tempfile.TemporaryDirectory() as work:
-                text = Path(work, "module.ll")
-                text.write_text(MODULE.replace(old, new))
-                why = why_refused(archive.held_to_the_proved, archive.Kit(), X86_WORDS, text, Path(work))
-                self.assertEqual(refused, why is not None and "it is not what was proved" in why)
+    def test_nothing_is_made(self):
+        """Of a module with one number changed, which is not what was proved, nothing is made, and what was there is gone. Of the module itself the same
+        archive is made again.
+        """
+        self.assertEqual(1, MODULE.count(", 49153"))
+        for number, refused in ("49153", False), ("49154", True):
+            with tempfile.TemporaryDirectory() as folder:
+                why = made_in(Path(folder), MODULE.replace(", 49153", f", {number}"))
+                made = [Path(folder, path(archive.ARM)) for path in (archive.archive_of, archive.digest_of)]
+                self.assertEqual(refused, why is not None and "it is not what was proved" in why, why)
+                self.assertEqual([not refused] * 2, [path.exists() for path in made])
+                self.assertTrue(refused or made[0].read_bytes() == archive.archive_of(archive.ARM).read_bytes())
 
     def test_plain_kit(self):
         """The toolchain over the plain kit, with no script in clang's place, makes the same archive as the run that kept the module."""
@@ -120,6 +125,25 @@ class Refused(unittest.TestCase):
         archive.PROVED.unlink()
         subprocess.run(["rt", "staticlib", archive.CRATE], stdout=subprocess.DEVNULL, check=True)
         self.assertTrue(archive.PROVED.read_bytes() == kept)
+
+
+def made_in(folder, text):
+    """Has host/archive make the archive for aarch64 in a folder that has an older one, of a text in the place of the module that it would keep. Why it
+    refuses, None where it does not.
+    """
+    def text_of(kit, work):
+        (work / "module.ll").write_text(text)
+        return work / "module.ll"
+
+    for path in archive.PROVED, archive.archive_of(archive.ARM), archive.digest_of(archive.ARM):
+        (folder / path).parent.mkdir(parents=True, exist_ok=True)
+        shutil.copyfile(archive.archive_of(archive.X86), folder / path)
+    with mock.patch.object(archive, "keep_module", lambda kit, work: X86_WORDS), mock.patch.object(archive, "text_of", text_of):
+        os.chdir(folder)
+        try:
+            return why_refused(archive.make, [archive.ARM], "a digest")
+        finally:
+            os.chdir(ROOT)
 
 
 # ---------------------------------------------------------------------------------------------
