@@ -342,7 +342,7 @@ static int patience(const host *h)
     }
     next = earlier(next, box_next(&h->box));
     next = earlier(next, guests_next(h->guests));
-    next = h->options.quiet ? next : earlier(next, morning_next(&h->morning));
+    next = h->options.simulate ? earlier(next, morning_next(&h->morning)) : next;
     next = h->accept_after > h->now ? earlier(next, h->accept_after) : next;
     return next <= h->now ? 0 : (int)(next - h->now);
 }
@@ -423,7 +423,7 @@ static bool turn(host *h)
     if (polled[AT_STOP].revents != 0 || (polled[AT_COMMANDS].revents != 0 && !read_commands(h))) {
         return false;
     }
-    if (!h->options.quiet) {
+    if (h->options.simulate) {
         morning_turn(&h->morning, &h->box, h->now);
     }
     turn_lines(h, polled);
@@ -515,7 +515,10 @@ static void greet(const host *h)
     if (h->options.strict) {
         say("every connection is strict: a checksum of 0xFFFF does not pass unchecked");
     }
-    say("%s. Commands: level K V, filled P, emptied P, state, quit", h->options.quiet ? "no simulated morning" : "a simulated morning: fish rise at random");
+    if (h->options.simulate) {
+        say("SIMULATED: fish rise at random, none of them is real");
+    }
+    say("commands: level K V, filled P, emptied P, state, quit");
 }
 
 /* Standard input and output are always something: no socket is to take their place. */
@@ -583,7 +586,7 @@ int main(int argc, char **argv)
     static host h;
     options_came came_to = options_read(&h.options, argc, argv);
     if (came_to != OPTIONS_GOOD) {
-        return came_to == OPTIONS_HELP ? EXIT_SUCCESS : EXIT_FAILURE;
+        return came_to == OPTIONS_DONE ? EXIT_SUCCESS : EXIT_FAILURE;
     }
     if (!begin(&h)) {
         return EXIT_FAILURE;

@@ -1,22 +1,21 @@
-/* The arguments of boxd, and the settings file. */
+/* The arguments of boxd. */
 #define _POSIX_C_SOURCE 200809L
 
 #include "options.h"
 
+#include "numbers.h"
+#include "settings.h"
+
 #include <arpa/inet.h>
-#include <errno.h>
 #include <netinet/in.h>
 #include <stdio.h>
-#include <stdlib.h>
 #include <string.h>
 #include <time.h>
 #include <unistd.h>
 
 enum {
-    NUMBERS = 5 * WELLACORN_CHANNELS,   /* of a settings file: four for each input, one for each relay */
     ADDRESS = 64,
-    FIRST_SETPOINT = 20,                /* of the settings without a file, so that a first morning shows alarms */
-    SECOND_SETPOINT = 50
+    LONGEST_TIME = 86400        /* s */
 };
 
 static const char help[] =
@@ -24,13 +23,25 @@ static const char help[] =
     "\n"
     "    --listen ADDRESS:PORT   where to listen; without it 127.0.0.1:9200, this machine alone. Port 0: any that is free\n"
     "    --users FILE            clients have to log in; host/adduser.py makes the file's lines. Without it each is an administrator\n"
+    "    --open                  others than this machine may come without a login. Without it and --users, only this machine is listened to\n"
     "    --strict                every connection is strict: 0xFFFF does not pass unchecked. For links that garble bytes, such as radio.\n"
     "                            Without it a connection is strict where the users file says so of its user\n"
+    "    --idle SECONDS          closes a connection after so long without a served message or keep-alive; 900 without it\n"
+    "    --login-time SECONDS    closes a connection on which nobody has logged in for so long; 60 without it. With --users alone\n"
+    "    --link-time SECONDS     closes a connection whose client acknowledges nothing for so long; 120 without it\n"
+    "\n"
     "    --settings FILE         setpoints and alarm switches: the 40 numbers of `power` in docs/REPLAY.md. Without it the count alarms\n"
     "                            of every input stand at 20 and 50, and input 8 has its alarm switch set\n"
-    "    --quiet                 no simulated morning: inputs change by `level` alone\n"
-    "    --seed N                the same morning again\n"
+    "    --io COMMAND            runs COMMAND, whose lines `level K V` tell the inputs, and which is told `relay K V`\n"
+    "    --io-socket PATH        the same for a program that connects to the Unix socket PATH\n"
+    "    --counts FILE           keeps the counts in FILE, and goes on with them after a power failure. Without it they begin at 0\n"
+    "    --simulate              a simulated morning: fish rise at random. Not with --io, --io-socket or --counts\n"
+    "    --seed N                the same simulated morning again\n"
+    "\n"
+    "    --log FILE              writes its lines to FILE, opened anew at SIGHUP; without it to standard output\n"
     "    --trace FILE            writes each call of the box to FILE, as lines of docs/REPLAY.md. Not with --users\n"
+    "    -h, --help              this\n"
+    "    --version               which version this is\n"
     "\n"
     "Commands on standard input: `level K V` (input K, 1 to 8, on 1 or off 0), `filled P` and `emptied P` (a relay module was plugged in at\n"
     "place P of the second deck, or pulled: 1 has relays 9 to 12, 2 relays 13 to 16), `state`, `quit`.\n";
@@ -41,18 +52,6 @@ static void complain(const char *what, const char *which, const char *advice)
 }
 
 /* ---- The address */
-
-/* Decimal digits alone, at most `most`. */
-static bool number(const char *word, uint64_t most, uint64_t *to)
-{
-    size_t n = strlen(word);
-    if (n == 0 || n > 20 || strspn(word, "0123456789") != n) {
-        return false;
-    }
-    errno = 0;
-    *to = strtoull(word, NULL, 10);
-    return errno == 0 && *to <= most;
-}
 
 static bool four(options *o, const char *host, uint16_t port)
 {
@@ -84,7 +83,7 @@ static bool read_address(options *o, const char *word)
     char host[ADDRESS];
     uint64_t port;
     const char *colon = strrchr(word, ':');
-    if (colon == NULL || (size_t)(colon - word) >= sizeof host || !number(colon + 1, 65535, &port)) {
+    if (colon == NULL || (size_t)(colon - word) >= sizeof host || !number_read(colon + 1, 65535, &port)) {
         return false;
     }
     size_t n = (size_t)(colon - word);
@@ -113,95 +112,61 @@ void address_words(const struct sockaddr_storage *address, char *text, size_t si
     }
 }
 
-/* ---- The settings */
+/* ---- The arguments */
 
-static void usual_settings(wellacorn_settings *s)
-{
-    memset(s, 0, sizeof *s);
-    for (int k = 0; k < WELLACORN_CHANNELS; k++) {
-        s->inputs[k].setpoint_one = FIRST_SETPOINT;
-        s->inputs[k].setpoint_two = SECOND_SETPOINT;
-    }
-    s->inputs[WELLACORN_CHANNELS - 1].alarm = true;
-}
+/* An argument, and where its value stands in the options. */
+typedef struct {
+    const char *name;
+    size_t place;
+} argument;
 
-/* The largest value of the number at a place. */
-static uint64_t most_at(int place)
-{
-    static const uint64_t of_an_input[] = {UINT32_MAX, UINT32_MAX, UINT64_MAX, 1};
-    return place < 4 * WELLACORN_CHANNELS ? of_an_input[place % 4] : UINT64_MAX;
-}
+static const argument flags[] = {
+    {"--open", offsetof(options, open)},
+    {"--strict", offsetof(options, strict)},
+    {"--simulate", offsetof(options, simulate)},
+};
 
-static void set(wellacorn_settings *s, int place, uint64_t x)
-{
-    wellacorn_input_settings *in = &s->inputs[place / 4 % WELLACORN_CHANNELS];
-    if (place >= 4 * WELLACORN_CHANNELS) {
-        s->relays[place - 4 * WELLACORN_CHANNELS] = x;
-    } else if (place % 4 == 0) {
-        in->setpoint_one = (uint32_t)x;
-    } else if (place % 4 == 1) {
-        in->setpoint_two = (uint32_t)x;
-    } else if (place % 4 == 2) {
-        in->usage_setpoint = x;
-    } else {
-        in->alarm = x == 1;
-    }
-}
+/* Those with a word behind them that is kept as it is. */
+static const argument words[] = {
+    {"--users", offsetof(options, users)},
+    {"--io", offsetof(options, io_command)},
+    {"--io-socket", offsetof(options, io_socket)},
+    {"--counts", offsetof(options, counts)},
+    {"--log", offsetof(options, log)},
+    {"--trace", offsetof(options, trace)},
+    {"--seed", offsetof(options, seed_word)},
+};
 
-static bool read_numbers(wellacorn_settings *s, FILE *file, const char *path)
+static const argument times[] = {
+    {"--idle", offsetof(options, idle)},
+    {"--login-time", offsetof(options, login_time)},
+    {"--link-time", offsetof(options, link_time)},
+};
+
+#define COUNT(list) (sizeof(list) / sizeof(list)[0])
+
+/* Where the value of a named argument stands; NULL where it is none of the list. */
+static void *find(options *o, const argument *list, size_t n, const char *name)
 {
-    char word[32];
-    for (int place = 0; place < NUMBERS; place++) {
-        uint64_t x;
-        if (fscanf(file, "%31s", word) != 1 || !number(word, most_at(place), &x)) {
-            fprintf(stderr, "boxd: number %d of 40 in the settings file %s is missing or out of range. docs/REPLAY.md says which they are\n",
-                    place + 1, path);
-            return false;
+    for (size_t i = 0; i < n; i++) {
+        if (strcmp(name, list[i].name) == 0) {
+            return (char *)o + list[i].place;
         }
-        set(s, place, x);
     }
-    if (fscanf(file, "%31s", word) == 1) {
-        complain("there are more than 40 numbers in the settings file", path, "docs/REPLAY.md says which they are");
+    return NULL;
+}
+
+static bool read_seconds(uint64_t *to, const char *name, const char *value)
+{
+    if (!number_read(value, LONGEST_TIME, to) || *to == 0) {
+        fprintf(stderr, "boxd: %s needs seconds from 1 to 86400, not %s. Write for example %s 60\n", name, value, name);
         return false;
     }
     return true;
 }
 
-static bool read_settings(wellacorn_settings *s, const char *path)
+static bool read_listen(options *o, const char *value)
 {
-    FILE *file = fopen(path, "r");
-    if (file == NULL) {
-        fprintf(stderr, "boxd: the settings file %s cannot be read: %s. Name another after --settings\n", path, strerror(errno));
-        return false;
-    }
-    bool good = read_numbers(s, file, path);
-    fclose(file);
-    return good;
-}
-
-/* ---- The arguments */
-
-/* An argument that has a value. */
-static bool read_value(options *o, const char *name, const char *value)
-{
-    if (strcmp(name, "--users") == 0) {
-        o->users = value;
-        return true;
-    }
-    if (strcmp(name, "--trace") == 0) {
-        o->trace = value;
-        return true;
-    }
-    if (strcmp(name, "--settings") == 0) {
-        return read_settings(&o->settings, value);
-    }
-    if (strcmp(name, "--seed") == 0) {
-        if (!number(value, UINT64_MAX, &o->seed)) {
-            complain("--seed needs a number, not", value, "Write for example --seed 7");
-            return false;
-        }
-        return true;
-    }
     if (!read_address(o, value)) {
         complain("--listen needs ADDRESS:PORT in numbers, not", value, "Write for example --listen 127.0.0.1:9200, or [::1]:9200");
         return false;
@@ -209,25 +174,34 @@ static bool read_value(options *o, const char *name, const char *value)
     return true;
 }
 
-static bool has_value(const char *name)
+static bool has_value(options *o, const char *name)
 {
-    static const char *const names[] = {"--listen", "--users", "--settings", "--seed", "--trace"};
-    for (size_t i = 0; i < sizeof names / sizeof names[0]; i++) {
-        if (strcmp(name, names[i]) == 0) {
-            return true;
-        }
+    return strcmp(name, "--listen") == 0 || strcmp(name, "--settings") == 0 || find(o, words, COUNT(words), name) != NULL ||
+           find(o, times, COUNT(times), name) != NULL;
+}
+
+/* An argument that has a value. */
+static bool read_value(options *o, const char *name, const char *value)
+{
+    const char **word = find(o, words, COUNT(words), name);
+    uint64_t *seconds = find(o, times, COUNT(times), name);
+    if (word != NULL) {
+        *word = value;
+        return true;
     }
-    return false;
+    if (seconds != NULL) {
+        return read_seconds(seconds, name, value);
+    }
+    return strcmp(name, "--settings") == 0 ? settings_read(&o->settings, value) : read_listen(o, value);
 }
 
 static bool read_arguments(options *o, int argc, char **argv)
 {
     for (int i = 1; i < argc; i++) {
-        if (strcmp(argv[i], "--quiet") == 0) {
-            o->quiet = true;
-        } else if (strcmp(argv[i], "--strict") == 0) {
-            o->strict = true;
-        } else if (!has_value(argv[i])) {
+        bool *flag = find(o, flags, COUNT(flags), argv[i]);
+        if (flag != NULL) {
+            *flag = true;
+        } else if (!has_value(o, argv[i])) {
             complain("there is no argument", argv[i], "--help lists them");
             return false;
         } else if (i + 1 == argc) {
@@ -242,24 +216,65 @@ static bool read_arguments(options *o, int argc, char **argv)
     return true;
 }
 
-options_came options_read(options *o, int argc, char **argv)
+/* ---- What does not go together */
+
+static bool read_seed(options *o)
 {
-    memset(o, 0, sizeof *o);
-    for (int i = 1; i < argc; i++) {
-        if (strcmp(argv[i], "--help") == 0) {
-            fputs(help, stdout);
-            return OPTIONS_HELP;
-        }
+    if (o->seed_word == NULL) {
+        o->seed = (uint64_t)time(NULL) ^ (uint64_t)getpid() << 32;
+        return true;
     }
-    usual_settings(&o->settings);
-    read_address(o, "127.0.0.1:9200");
-    o->seed = (uint64_t)time(NULL) ^ (uint64_t)getpid() << 32;
-    if (!read_arguments(o, argc, argv)) {
-        return OPTIONS_BAD;
+    if (!number_read(o->seed_word, UINT64_MAX, &o->seed)) {
+        complain("--seed needs a number, not", o->seed_word, "Write for example --seed 7");
+        return false;
     }
+    if (!o->simulate) {
+        complain("--seed is of a simulated morning", "", "Write --simulate too, or leave it out");
+    }
+    return o->simulate;
+}
+
+/* Invented fish do not mix with real ones. */
+static bool keeps_apart(const options *o)
+{
     if (o->users != NULL && o->trace != NULL) {
         complain("--trace and --users do not go together", "", "The trace would hold the passwords: leave one of them out");
-        return OPTIONS_BAD;
+        return false;
     }
-    return OPTIONS_GOOD;
+    if (o->simulate && (o->io_command != NULL || o->io_socket != NULL || o->counts != NULL)) {
+        complain("--simulate does not go with --io, --io-socket or --counts", "", "Invented fish would stand among real ones: leave it out");
+        return false;
+    }
+    if (o->io_command != NULL && o->io_socket != NULL) {
+        complain("--io and --io-socket do not go together", "", "The inputs have one source: leave one of them out");
+        return false;
+    }
+    return true;
+}
+
+/* What is printed instead of starting. Whether there was something. */
+static bool only_prints(int argc, char **argv)
+{
+    for (int i = 1; i < argc; i++) {
+        if (strcmp(argv[i], "--help") == 0 || strcmp(argv[i], "-h") == 0) {
+            fputs(help, stdout);
+            return true;
+        }
+        if (strcmp(argv[i], "--version") == 0) {
+            puts("boxd " WELLACORN_VERSION);
+            return true;
+        }
+    }
+    return false;
+}
+
+options_came options_read(options *o, int argc, char **argv)
+{
+    *o = (options){.idle = 900, .login_time = 60, .link_time = 120};
+    if (only_prints(argc, argv)) {
+        return OPTIONS_DONE;
+    }
+    settings_usual(&o->settings);
+    read_address(o, "127.0.0.1:9200");
+    return read_arguments(o, argc, argv) && read_seed(o) && keeps_apart(o) ? OPTIONS_GOOD : OPTIONS_BAD;
 }

@@ -27,6 +27,8 @@
 #include <stddef.h>
 #include <stdint.h>
 
+#define WELLACORN_VERSION "1.0.0"   /* of the library and of the programs around it: the one place where it stands */
+
 #ifdef __cplusplus
 extern "C" {
 #endif

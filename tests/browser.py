@@ -238,7 +238,7 @@ def try_loss(browser, host, folder):
                      "the box is gone: the page says so, and no button can be pressed")
     browser.wait_for(f"{TEXT}.includes('Check that the box runs')", "it says what to check")
     browser.picture(os.path.join(folder, "panel-no-answer.png"), TABLET)
-    with Boxd("--quiet", port=host.port) as again:
+    with Boxd(port=host.port) as again:
         browser.wait_for(f"!{TEXT}.includes('does not answer') && {BUTTONS}.every(b => !b.disabled)", "the box is back: the page finds it")
         again.quit()
 
@@ -246,7 +246,7 @@ def try_loss(browser, host, folder):
 def main():
     folder = sys.argv[1] if len(sys.argv) > 1 else os.path.join(ROOT, "target", "panel")
     os.makedirs(folder, exist_ok=True)
-    with Boxd("--quiet") as host, Client(host.port) as client, Panel(host.port) as panel:
+    with Boxd() as host, Client(host.port) as client, Panel(host.port) as panel:
         busy_morning(host, client)
         browser = Browser(f"http://127.0.0.1:{panel.port}/")
         try:

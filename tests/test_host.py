@@ -126,7 +126,7 @@ class Clients(Case):
     def four_at_once(self, *words):
         """What is played of four clients at a time, each of whom got what the model replies, no byte more or less."""
         clients = []
-        with Boxd("--quiet", *words, "--settings", settings_file(self.folder.name), trace=True) as host:
+        with Boxd(*words, "--settings", settings_file(self.folder.name), trace=True) as host:
             run_all(*[lambda seed=seed: self.one_client(host, clients, f"four/{seed}") for seed in range(4)],
                     lambda: self.lifts(host, "lifts", 1000))
             host.quit()
@@ -149,7 +149,7 @@ class Clients(Case):
         """A client that does not read is not read from; the others notice nothing, and it loses no reply."""
         ids = (INPUT_IDS + RELAY_IDS) * 7 + INPUT_IDS[:6] * 2
         message = frame(b"\x15" + field(len(ids), 2) + b"".join(field(id, 8) for id in ids))
-        with Boxd("--quiet", trace=True) as host, Client(host.port, small=True) as slow, Client(host.port) as quick:
+        with Boxd(trace=True) as host, Client(host.port, small=True) as slow, Client(host.port) as quick:
             sender = threading.Thread(target=slow.send, args=(message * 1000,))
             sender.start()
             self.stands_still(host, quick)
@@ -184,7 +184,7 @@ class Clients(Case):
         strays = bytes(rng.choice((0x00, 0x02, 0x07, 0x80, 0xFE, 0xFF)) for _ in range(20000))
         oversize = b"".join(b"\x01" + field(size, 2) + b"\xFF\xFF" + bytes([rng.choice((0x01, 0x06, 0x55))]) * size
                             for size in (1025, 65535, 4096, 32768, 65535, 1025) * 5)
-        with Boxd("--quiet", trace=True) as host, Client(host.port) as other:
+        with Boxd(trace=True) as host, Client(host.port) as other:
             floods = [Client(host.port) for _ in range(3)]
             run_all(lambda: floods[0].talk(strays + MONITOR, rng, 5000),
                     lambda: floods[1].talk(oversize + CLOCK, random.Random("1"), 9000),
@@ -199,7 +199,7 @@ class Clients(Case):
 
     def test_fifth_client(self):
         """The fifth is told so, in the protocol's own words, and closed; the four go on; a place that is left is given again."""
-        with Boxd("--quiet", trace=True) as host:
+        with Boxd(trace=True) as host:
             four = [Client(host.port) for _ in range(4)]
             for client in four:
                 client.clock()
@@ -224,7 +224,7 @@ class Clients(Case):
     def test_half_a_message_then_hang_up(self):
         """Its half is dropped: the next client of that connection begins afresh."""
         message = frame(b"\x0A\x01\x00\x03")
-        with Boxd("--quiet", trace=True) as host:
+        with Boxd(trace=True) as host:
             clients = []
             for cut in range(1, len(message)):
                 client = Client(host.port)
@@ -245,7 +245,7 @@ class Clients(Case):
 
     def test_kill_and_restart(self):
         """A killed host leaves no trouble behind: it starts again on its port at once, as after power-up."""
-        with Boxd("--quiet") as host:
+        with Boxd() as host:
             client = Client(host.port)
             host.tell("level 2 1")
             client.send(frame(b"\x0A\x01\x00\x01"))
@@ -256,11 +256,11 @@ class Clients(Case):
                 while True:
                     self.assertIsNotNone(client.next())
             client.close()
-        with Boxd("--quiet", port=host.port) as again, Client(host.port) as client:
+        with Boxd(port=host.port) as again, Client(host.port) as client:
             content = client.ask(MONITOR, 1)
             self.assertEqual(content[17:89], bytes(72))
         for number_, word in ((signal.SIGTERM, "SIGTERM"), (signal.SIGINT, "SIGINT")):
-            with Boxd("--quiet", port=host.port) as ended, Client(host.port) as client, self.subTest(word):
+            with Boxd(port=host.port) as ended, Client(host.port) as client, self.subTest(word):
                 client.clock()
                 ended.process.send_signal(number_)
                 self.assertEqual(ended.ended(), 0)
@@ -275,7 +275,7 @@ class Clients(Case):
 class Events(Case):
     def test_monitor_when_due(self):
         """A change comes to every client that has Monitor on, without being asked for."""
-        with Boxd("--quiet", trace=True) as host, Client(host.port) as one, Client(host.port) as two:
+        with Boxd(trace=True) as host, Client(host.port) as one, Client(host.port) as two:
             for client in (one, two):
                 self.assertEqual(client.next()[0], 1)
             two.send(frame(b"\x05\x00\x04") + CLOCK)
@@ -296,7 +296,7 @@ class Events(Case):
 
     def test_time(self):
         """The clock goes as the monotonic clock does, through thousands of messages: no ms is lost or counted twice."""
-        with Boxd("--quiet", trace=True) as host, Client(host.port) as client:
+        with Boxd(trace=True) as host, Client(host.port) as client:
             asked = []
             for turns, rest in ((700, 0), (15, 0.02), (700, 0), (0, 0)):            # busy, at rest between, busy
                 before = time.monotonic()
@@ -316,7 +316,7 @@ class Events(Case):
 
     def test_commands(self):
         """`level`, `state` and `quit`, and lines that are none.  What `state` prints is what the model holds."""
-        with Boxd("--quiet", "--settings", settings_file(self.folder.name), trace=True) as host, Client(host.port) as client:
+        with Boxd("--settings", settings_file(self.folder.name), trace=True) as host, Client(host.port) as client:
             client.send(frame(b"\x0A\x0A\x81\x81"))
             for line, said in (("level 1 1", "input 1 is on: 1 counted"), ("level 1 1", "input 1 was on already"),
                                ("  level\t8   1 ", "input 8 is on"), ("level 1 0", "input 1 is off: 1 counted"),
@@ -340,7 +340,7 @@ class Events(Case):
 
     def test_state_at_the_setpoints(self):
         """M-101: `state` tells a count that stands at its setpoint from one above it."""
-        with Boxd("--quiet", "--settings", settings_file(self.folder.name)) as host:
+        with Boxd("--settings", settings_file(self.folder.name)) as host:
             words = {2: "", 3: ", setpoint 1 reached", 4: ", count alarm 1", 7: ", count alarm 1, setpoint 2 reached",
                      8: ", count alarm 1, count alarm 2"}
             for count in range(1, 9):
@@ -353,7 +353,7 @@ class Events(Case):
 
     def test_without_standard_input(self):
         """The end of standard input ends the commands, not the box."""
-        with Boxd("--quiet") as host, Client(host.port) as client:
+        with Boxd() as host, Client(host.port) as client:
             host.process.stdin.close()
             client.clock()
             host.process.terminate()
@@ -361,7 +361,7 @@ class Events(Case):
 
     def test_output_that_nobody_reads(self):
         """Standard output that is not read delays no client; lines are left out, and that is said."""
-        words = [os.path.join(ROOT, "host", "exec"), PROGRAM, "--quiet", "--listen", "127.0.0.1:0"]
+        words = [os.path.join(ROOT, "host", "exec"), PROGRAM, "--listen", "127.0.0.1:0"]
         process = subprocess.Popen(words, stdin=subprocess.PIPE, stdout=subprocess.PIPE)
         try:
             port = int(process.stdout.readline().decode().rsplit(":", 1)[1])
@@ -382,7 +382,7 @@ class Events(Case):
     def test_morning(self):
         """Fish rise at random; what is printed, what the clients get and what the model counts agree.  A seed fixes when each lift has
         its first: the host may be late where the machine is busy, never early."""
-        with Boxd("--seed", "105", trace=True) as host, Client(host.port) as client:
+        with Boxd("--simulate", "--seed", "105", trace=True) as host, Client(host.port) as client:
             while host.count("fish on lift") < 4:
                 client.next_of(1)
             client.finish()
@@ -427,7 +427,7 @@ class Pulses(Case):
 
     def test_begins_and_ends(self):
         """The relay opens again by itself, in a box that nothing else wakes, and was closed for that long to the ms."""
-        with Boxd("--quiet", trace=True) as host, Client(host.port) as client:
+        with Boxd(trace=True) as host, Client(host.port) as client:
             self.assertEqual(self.relays(client.next()), [])
             begun = time.monotonic()
             client.send(pulse(3, 300))
@@ -444,7 +444,7 @@ class Pulses(Case):
 
     def test_several_ends_at_once(self):
         """A box that was held up tells several ends in one call, each in its turn; what then differs stands in the last line."""
-        with Boxd("--quiet", trace=True) as host, Client(host.port) as client:
+        with Boxd(trace=True) as host, Client(host.port) as client:
             client.send(frame(b"\x0A\x01\x00\x02") + pulse(1, 1500) + block_pulse(0x06, 0x04, 2) + pulse(8, 3) + block_pulse(0xC0, 0, 60000))
             host.wait_for("waits behind 3 others")
             host.process.send_signal(signal.SIGSTOP)
@@ -472,7 +472,7 @@ class Pulses(Case):
 
     def test_full_queue(self):
         """31 stand at most: the next is refused and told why; with each end there is room for one more."""
-        with Boxd("--quiet", trace=True) as host, Client(host.port) as client, Client(host.port) as other:
+        with Boxd(trace=True) as host, Client(host.port) as client, Client(host.port) as other:
             client.send(pulse(1, 1500) + pulse(2, 1) * 30 + pulse(3, 1) + HOW_MANY)
             self.assertEqual(client.next_of(254)[4], 31)
             self.assertEqual(self.how_many(other), 31)
@@ -495,7 +495,7 @@ class Pulses(Case):
 
     def test_commands_meanwhile(self):
         """What a client does to the relay while its pulse runs is undone at its end; a closed connection ends no pulse."""
-        with Boxd("--quiet", trace=True) as host, Client(host.port) as other:
+        with Boxd(trace=True) as host, Client(host.port) as other:
             self.assertEqual(self.relays(other.next()), [])
             with Client(host.port) as client:
                 client.send(frame(b"\x0A\x01\x00\x05") + block_pulse(0x30, 0x20, 1500) + frame(b"\x0A\x0A\xFF\x11"))
@@ -512,7 +512,7 @@ class Pulses(Case):
 
     def test_state(self):
         """`state` tells each pulse that stands."""
-        with Boxd("--quiet") as host, Client(host.port) as client:
+        with Boxd() as host, Client(host.port) as client:
             host.tell("state")
             host.wait_for("state: no pulse stands in the queue")
             client.send(pulse(2, 50000) + block_pulse(0x81, 0x01, 5) + pulse(7, 4294967295))
@@ -529,7 +529,7 @@ class Pulses(Case):
     def test_how_many_is_asked_right(self):
         """Another name, command type or payload is no question of this host: no answer, and refused as a type that is not offered."""
         wrong = wrongly_asked(HOW_MANY)
-        with Boxd("--quiet", trace=True) as host, Client(host.port) as client:
+        with Boxd(trace=True) as host, Client(host.port) as client:
             client.send(b"".join(wrong) + HOW_MANY)
             self.assertEqual(client.next_of(254), b"\xFE\x00\x00\x01\x00")
             client.finish()
@@ -564,7 +564,7 @@ class SecondDeck(Case):
         those relays that are there.
         """
         place = r" \(11\): write `{0} P` with P 1 \(relays 9 to 12\) or 2 \(relays 13 to 16\)$"
-        with Boxd("--quiet", trace=True) as host:
+        with Boxd(trace=True) as host:
             self.assertEqual(self.state(host), ["place 1 is empty", "place 2 is empty"])
             for line, said in (("filled 2", "place 2 is filled: relays 13 to 16 are there, all open$"),
                                ("filled 2", "place 2 was filled already: nothing changed$"), ("emptied 1", "place 1 was empty already: nothing changed$"),
@@ -592,7 +592,7 @@ class SecondDeck(Case):
         """Both Monitor messages come with a connection, with request 1 and with a level, one behind the other; a relay of the second deck brings type 2
         alone, and without a module there is no type 2.
         """
-        with Boxd("--quiet", trace=True) as host, Client(host.port) as early:
+        with Boxd(trace=True) as host, Client(host.port) as early:
             self.assertEqual(early.next()[0], 1)
             self.say(host, "filled 2", "is filled")
             early.clock()
@@ -626,7 +626,7 @@ class SecondDeck(Case):
 
     def test_hung_up(self):
         """A client that has hung up still gets type 2, where that alone is due."""
-        with Boxd("--quiet", trace=True) as host:
+        with Boxd(trace=True) as host:
             self.say(host, "filled 1", "is filled")
             with Client(host.port) as client:
                 self.assertEqual(self.kinds(client, 2), [1, 2])
@@ -639,7 +639,7 @@ class SecondDeck(Case):
 
     def test_requests(self):
         """Requests 4 and 5 turn both messages off and on."""
-        with Boxd("--quiet", trace=True) as host:
+        with Boxd(trace=True) as host:
             self.say(host, "filled 1", "is filled")
             with Client(host.port) as client:
                 self.assertEqual(self.kinds(client, 2), [1, 2])
@@ -653,7 +653,7 @@ class SecondDeck(Case):
 
     def test_login(self):
         """Neither message comes before a login, and both come behind it."""
-        with Boxd("--quiet", "--users", self.users_file(adduser.line("anna", 1, b"salmon", 1000))) as host:
+        with Boxd("--users", self.users_file(adduser.line("anna", 1, b"salmon", 1000))) as host:
             self.say(host, "filled 1", "is filled")
             with Client(host.port) as client:
                 client.send(command(1, 9) + login(b"anna", b"salmon"))
@@ -667,7 +667,7 @@ class SecondDeck(Case):
         """What is said of commands to relays 9 to 16, and of those whose module is not there."""
         absent = "sent a message of type 10; " + refused(OUT_OF_RANGE) + ": relay {}: no module at place {}"
         range_ = "sent a message of type 10; " + refused(OUT_OF_RANGE) + ": an action, request, channel, duration or flag is out of range"
-        with Boxd("--quiet", trace=True) as host, Client(host.port) as client:
+        with Boxd(trace=True) as host, Client(host.port) as client:
             self.say(host, "filled 1", "is filled")
             for message, said in (
                     (command(1, 9), "commanded relay 9 closed; relay 9 is closed now$"), (command(1, 9), "commanded relay 9 closed$"),
@@ -692,7 +692,7 @@ class SecondDeck(Case):
 
     def test_pulses(self):
         """Pulses of the second deck are told as others are, and end by themselves, which comes in type 2 alone."""
-        with Boxd("--quiet", trace=True) as host:
+        with Boxd(trace=True) as host:
             self.say(host, "filled 2", "is filled")
             with Client(host.port) as client:
                 self.assertEqual(self.kinds(client, 2), [1, 2])
@@ -706,7 +706,7 @@ class SecondDeck(Case):
 
     def test_pulled_while_pulses_stand(self):
         """Pulses of a module that is pulled keep their places and their times, and lose its relays; that is said.  The others stay as they are."""
-        with Boxd("--quiet", trace=True) as host, Client(host.port) as client:
+        with Boxd(trace=True) as host, Client(host.port) as client:
             self.say(host, "filled 1\nfilled 2", "place 2 is filled")
             client.send(command(1, 11) + pulse(9, 1500) + pulse(13, 20) + pulse(12, 30) + block_pulse(0x81, 0x80, 40) + pulse(9, 60000))
             host.wait_for("waits behind 4 others")
@@ -771,7 +771,7 @@ class Refused(Case):
             answer, _, place, _ = box.bytes_(0, 4096, frame(content))
             if answer in self.WORDS:
                 expected.append(self.told(content, answer, place))
-        with Boxd("--quiet", trace=True) as host, Client(host.port) as client:
+        with Boxd(trace=True) as host, Client(host.port) as client:
             client.send(b"".join(frame(content) for content in self.crooked()))
             client.finish()
             host.quit()
@@ -805,7 +805,7 @@ class Refused(Case):
 
     def test_last_refused(self):
         """The host tells the last refused message, of whichever connection, to every connection, and nothing else; also when it is closed."""
-        with Boxd("--quiet", trace=True) as host, Client(host.port) as asking, Client(host.port) as other:
+        with Boxd(trace=True) as host, Client(host.port) as asking, Client(host.port) as other:
             self.assertEqual(self.last(asking), ((0, 0, 0, 0, 0), 0))
             for message, told in self.REFUSED:
                 other.send(message + CLOCK)
@@ -828,7 +828,7 @@ class Refused(Case):
 
     def test_how_long_ago(self):
         """The seconds since it was refused grow with the box's own time; another refusal begins them anew."""
-        with Boxd("--quiet", trace=True) as host, Client(host.port) as client:
+        with Boxd(trace=True) as host, Client(host.port) as client:
             for _ in range(2):
                 begun = time.monotonic()
                 client.send(frame(b"\x1A"))
@@ -844,7 +844,7 @@ class Refused(Case):
     def test_last_refused_is_asked_right(self):
         """As with the other question: what is asked otherwise is refused, and is then the last refused message itself."""
         wrong = wrongly_asked(LAST_REFUSED)
-        with Boxd("--quiet", trace=True) as host, Client(host.port) as client:
+        with Boxd(trace=True) as host, Client(host.port) as client:
             client.send(b"".join(wrong))
             self.assertEqual(self.last(client)[0], (2, 0, 255, NOT_OFFERED, 0))
             client.finish()
@@ -940,7 +940,7 @@ REFUSED, USER, ADMINISTRATOR = frame(b"\x7D\xFF"), frame(b"\x7D\x02"), frame(b"\
 
 class Login(Case):
     def start(self, iterations=1000):
-        return Boxd("--quiet", "--users", self.users_file(adduser.line("anna", 1, b"salmon", iterations),
+        return Boxd("--users", self.users_file(adduser.line("anna", 1, b"salmon", iterations),
                                                           adduser.line("olav", 2, b"Trout:7", iterations)))
 
     def answer(self, client, message):
@@ -985,7 +985,7 @@ class Login(Case):
     def test_001_example(self):
         """The login that 001 prints, bytes and all, with its checksum and with 0xFFFF; whole and byte by byte."""
         users = self.users_file(adduser.line("jnior", 2, b"jnior", 1000))
-        with Boxd("--quiet", "--users", users) as host:
+        with Boxd("--users", users) as host:
             for request in ("01000d60b77e056a6e696f72056a6e696f72", "01000dffff7e056a6e696f72056a6e696f72"):
                 for size in (18, 1, 7):
                     with Client(host.port) as client:
@@ -1027,7 +1027,7 @@ class Login(Case):
             elif change == 2:
                 content = content[:1] + bytes([rng.randrange(256)]) + content[2:]
             stream += frame(content)
-        with Boxd("--quiet", trace=True) as host, Client(host.port) as client:
+        with Boxd(trace=True) as host, Client(host.port) as client:
             client.talk(stream, rng, 2000)
             host.quit()
             judge(host, [client])
@@ -1085,7 +1085,7 @@ class Login(Case):
     def test_work_delays_nobody(self):
         """While a long hash is worked out, another connection is served; a client that hangs up meanwhile is let go."""
         users = self.users_file(adduser.line("anna", 1, b"salmon", 200000), adduser.line("olav", 2, b"Trout:7", 1000))
-        with Boxd("--quiet", "--users", users) as host, Client(host.port) as anna, Client(host.port) as olav:
+        with Boxd("--users", users) as host, Client(host.port) as anna, Client(host.port) as olav:
             self.assertEqual(self.answer(olav, login(b"olav", b"Trout:7"))[0], ADMINISTRATOR)
             gone = Client(host.port)
             gone.send(login(b"anna", b"salmon"))
@@ -1120,7 +1120,7 @@ class Strict(Case):
 
     def start(self, *words):
         """anna is strict, olav is not."""
-        return Boxd("--quiet", *words, "--users", self.users_file(adduser.line("anna", 1, b"salmon", 1000, strict=True),
+        return Boxd(*words, "--users", self.users_file(adduser.line("anna", 1, b"salmon", 1000, strict=True),
                                                                   adduser.line("olav", 2, b"Trout:7", 1000)))
 
     def told_of(self, host, client, message=TOGGLE_2):
@@ -1142,7 +1142,7 @@ class Strict(Case):
         """One client, whose replies are the model's: the host, which has ended, and the relays that are closed in the end."""
         sent = (self.TOGGLE_2, frame(b"\x0A\x01\x00\x03"), self.CHECKED_SO, unchecked(b""), unchecked(b"\x63"), unchecked(bytes(1025)),
                 b"\x01\x00\x04\xFF\xFE\x0A\x01\x00\x06", MONITOR)
-        with Boxd("--quiet", *words, trace=True) as host, Client(host.port) as client:
+        with Boxd(*words, trace=True) as host, Client(host.port) as client:
             client.send(b"".join(sent))
             client.finish()
             host.quit()
@@ -1229,17 +1229,17 @@ class Arguments(Case):
                             (("--loud",), "--help lists them"), (("--strict", "1"), "--help lists them"), (("--seed", "-1"), "Write for example"),
                             (("--settings", short), "number 4 of 40"), (("--settings", short + "x"), "Name another after"),
                             (("--listen", "192.0.2.1:9200"), "choose one that it has"),
-                            (("--quiet", "--listen", "127.0.0.1:0", "--trace", self.folder.name), "Name another file")):
+                            (("--listen", "127.0.0.1:0", "--trace", self.folder.name), "Name another file")):
             self.assertIn(said, self.refused(*words), words)
 
     def test_port_in_use(self):
-        with Boxd("--quiet") as host:
+        with Boxd() as host:
             said = self.refused("--listen", f"127.0.0.1:{host.port}")
             self.assertIn("Another box may be running: end it, or choose another port", said)
 
     def test_too_few_files(self):
         """Where the system allows too few open files to wait for clients, the box says so and ends."""
-        shell = ["bash", "-c", 'ulimit -n 12; exec "$@"', "bash", os.path.join(ROOT, "host", "exec"), PROGRAM, "--quiet", "--listen", "127.0.0.1:0"]
+        shell = ["bash", "-c", 'ulimit -n 12; exec "$@"', "bash", os.path.join(ROOT, "host", "exec"), PROGRAM, "--listen", "127.0.0.1:0"]
         with Program(shell) as program:
             self.assertEqual(program.ended(), 1)
             self.assertTrue(program.find("Raise `ulimit -n`"))
@@ -1247,7 +1247,7 @@ class Arguments(Case):
     def test_help(self):
         done = subprocess.run([os.path.join(ROOT, "host", "exec"), PROGRAM, "--help"], stdout=subprocess.PIPE, text=True, check=True,
                               timeout=PATIENCE)
-        for word in ("--listen", "--users", "--strict", "--settings", "--quiet", "--seed", "--trace", "level K V", "filled P", "emptied P", "state",
+        for word in ("--listen", "--users", "--strict", "--settings", "--seed", "--trace", "level K V", "filled P", "emptied P", "state",
                      "quit"):
             self.assertIn(word, done.stdout)
 

@@ -142,7 +142,7 @@ class Case(unittest.TestCase):
         with tempfile.NamedTemporaryFile("w") as settings:
             settings.write("2 3 1 1 " * 8 + "1 " * 8)
             settings.flush()
-            with Boxd("--quiet", "--settings", settings.name) as host, Panel(host.port) as panel, Client(host.port) as client:
+            with Boxd("--settings", settings.name) as host, Panel(host.port) as panel, Client(host.port) as client:
                 state = panel.wait_until(answers)
                 self.assertEqual([i["count"] for i in state["inputs"]], [0] * 8)
                 self.assertEqual(state["name"], "jr310 3.10.0001")
@@ -167,7 +167,7 @@ class Case(unittest.TestCase):
         with tempfile.NamedTemporaryFile("w") as settings:
             settings.write("2 3 0 0 " * 8 + "0 " * 8)
             settings.flush()
-            with Boxd("--quiet", "--settings", settings.name) as host, Panel(host.port) as panel, Client(host.port) as client:
+            with Boxd("--settings", settings.name) as host, Panel(host.port) as panel, Client(host.port) as client:
                 panel.wait_until(answers)
 
                 def shows(count, lamp, reached):
@@ -189,7 +189,7 @@ class Case(unittest.TestCase):
 
     def test_buttons(self):
         """A button switches its relay, and says so when the box shows it; a second press of the same changes nothing."""
-        with Boxd("--quiet") as host, Panel(host.port) as panel, Client(host.port) as client:
+        with Boxd() as host, Panel(host.port) as panel, Client(host.port) as client:
             panel.wait_until(answers)
             for relay, closed in ((1, True), (8, True), (8, True), (1, False)):
                 self.assertEqual(panel.press(relay, closed)[0], 200)
@@ -208,7 +208,7 @@ class Case(unittest.TestCase):
 
     def test_pulses(self):
         """A pulse button pulses its relay for so long, and says whether the pulse has begun or waits; how many stand is shown."""
-        with Boxd("--quiet") as host, Panel(host.port) as panel, Client(host.port) as client:
+        with Boxd() as host, Panel(host.port) as panel, Client(host.port) as client:
             self.assertEqual(panel.wait_until(answers)["standing"], 0)
             self.assertEqual(panel.pulse(3, 1500)[::2], (200, "The pulse of relay 3, 1500 ms, has begun.\n"))
             state = panel.state()
@@ -227,7 +227,7 @@ class Case(unittest.TestCase):
 
     def test_full_queue(self):
         """Where 31 stand, the panel says that the box takes no more.  The longest pulse is taken."""
-        with Boxd("--quiet") as host, Panel(host.port) as panel, Client(host.port) as client:
+        with Boxd() as host, Panel(host.port) as panel, Client(host.port) as client:
             panel.wait_until(answers)
             self.assertEqual(panel.pulse(6, 4294967295)[0], 200)
             client.send(pulse(1, 5) * 29)
@@ -245,7 +245,7 @@ class Case(unittest.TestCase):
 
     def test_pulses_that_are_none(self):
         """A duration or a relay that the box would not take is not even sent."""
-        with Boxd("--quiet") as host, Panel(host.port) as panel:
+        with Boxd() as host, Panel(host.port) as panel:
             panel.wait_until(answers)
             for body in ("", "{}", "[]", '{"relay":1}', '{"ms":5}', '{"relay":1,"ms":0}', '{"relay":1,"ms":-1}', '{"relay":1,"ms":4294967296}',
                          '{"relay":1,"ms":1.5}', '{"relay":1,"ms":"5"}', '{"relay":1,"ms":true}', '{"relay":1,"ms":null}', '{"relay":0,"ms":5}',
@@ -267,7 +267,7 @@ class Case(unittest.TestCase):
 
     def test_second_deck(self):
         """M-102: the second deck is shown as far as its modules are there, with the states that its relays have, whoever switched them."""
-        with Boxd("--quiet") as host, Panel(host.port) as panel, Client(host.port) as client:
+        with Boxd() as host, Panel(host.port) as panel, Client(host.port) as client:
             self.assertEqual(panel.wait_until(answers)["deck"], [])
             host.tell("filled 2")
             host.wait_for("place 2 is filled")
@@ -293,7 +293,7 @@ class Case(unittest.TestCase):
 
     def test_absent_relays(self):
         """M-102: a relay whose module is not there is not even asked for; where the module goes just then, the box refuses it, and the panel says so."""
-        with Boxd("--quiet") as host, Panel(host.port) as panel:
+        with Boxd() as host, Panel(host.port) as panel:
             panel.wait_until(answers)
             self.assertEqual(self.module(host, panel, "filled 1"), shown_open(9, 10, 11, 12))
             count = host.count("commanded")
@@ -312,12 +312,12 @@ class Case(unittest.TestCase):
 
     def test_other_deck_after_a_loss(self):
         """M-102: after the box was gone, the deck is that of the box as it is now."""
-        with Boxd("--quiet") as host, Panel(host.port) as panel:
+        with Boxd() as host, Panel(host.port) as panel:
             host.tell("filled 1")
             panel.wait_until(lambda s: deck(s) == shown_open(9, 10, 11, 12))
             host.process.kill()
             panel.wait_until(lambda s: not s["answers"])
-            with Boxd("--quiet", port=host.port) as again:
+            with Boxd(port=host.port) as again:
                 again.tell("filled 2")
                 panel.wait_until(lambda s: s["answers"] and deck(s) == shown_open(13, 14, 15, 16))
                 again.quit()
@@ -394,7 +394,7 @@ class Case(unittest.TestCase):
 
     def test_last_refused(self):
         """M-105: the last message that the box refused, whoever sent it, stands on the panel in words; none after power-up."""
-        with Boxd("--quiet") as host, Panel(host.port) as panel:
+        with Boxd() as host, Panel(host.port) as panel:
             panel.wait_until(answers)
             with Client(host.port) as client:
                 client.clock()
@@ -417,7 +417,7 @@ class Case(unittest.TestCase):
             panel.wait_until(lambda s: re.search(r", [1-9]\d* (s|min) ago$", s["refused"]))
             host.process.kill()
             panel.wait_until(lambda s: not s["answers"])
-            with Boxd("--quiet", port=host.port) as again:
+            with Boxd(port=host.port) as again:
                 panel.wait_until(lambda s: s["answers"] and s["refused"] == "")
                 again.quit()
 
@@ -430,7 +430,7 @@ class Case(unittest.TestCase):
             users = os.path.join(folder, "users")
             with open(users, "w", encoding="ascii") as file:
                 file.write(adduser.line("anna", 1, b"salmon", 1000) + "\n")
-            with Boxd("--quiet", "--users", users) as host, Panel(host.port, "--user", "anna", secret="salmon") as panel:
+            with Boxd("--users", users) as host, Panel(host.port, "--user", "anna", secret="salmon") as panel:
                 self.assertEqual(panel.wait_until(answers)["refused"], "")
                 with Client(host.port) as nobody:
                     nobody.send(frame(b"\x07"))
@@ -469,7 +469,7 @@ class Case(unittest.TestCase):
 
     def test_other_sites_press_nothing(self):
         """A request under another name, or a command from another page, is refused."""
-        with Boxd("--quiet") as host, Panel(host.port) as panel:
+        with Boxd() as host, Panel(host.port) as panel:
             panel.wait_until(answers)
             own = f"127.0.0.1:{panel.port}"
             for headers in ({"Origin": "http://evil.example"}, {"Origin": None}, {"Origin": "null"}, {"Origin": "https://" + own},
@@ -487,7 +487,7 @@ class Case(unittest.TestCase):
 
     def test_page(self):
         """One page, with nothing from elsewhere; its events bring the state."""
-        with Boxd("--quiet") as host, Panel(host.port) as panel:
+        with Boxd() as host, Panel(host.port) as panel:
             status, headers, body = panel.ask("GET", "/")
             self.assertEqual(status, 200)
             self.assertNotIn("http:", body)
@@ -514,7 +514,7 @@ class Case(unittest.TestCase):
 
     def test_box_gone_and_back(self):
         """When the box is gone the panel says so, since when and what to check; a button then fails; it finds the box again by itself."""
-        with Boxd("--quiet") as host, Panel(host.port) as panel:
+        with Boxd() as host, Panel(host.port) as panel:
             first = panel.wait_until(answers)
             host.process.kill()
             gone = panel.wait_until(lambda s: not s["answers"])
@@ -526,7 +526,7 @@ class Case(unittest.TestCase):
             status, _, said = panel.pulse(1, 5)
             self.assertEqual(status, 502)
             self.assertIn("did not tell whether it took the pulse of relay 1", said)
-            with Boxd("--quiet", port=host.port) as again:
+            with Boxd(port=host.port) as again:
                 back = panel.wait_until(answers)
                 self.assertGreaterEqual(back["since"], gone["since"])
                 self.assertEqual(panel.press(1, True)[0], 200)
@@ -534,7 +534,7 @@ class Case(unittest.TestCase):
 
     def test_fifth_connection(self):
         """When all four connections are in use, the panel says what the box told it."""
-        with Boxd("--quiet") as host:
+        with Boxd() as host:
             four = [Client(host.port) for _ in range(4)]
             for client in four:
                 client.clock()
@@ -552,7 +552,7 @@ class Case(unittest.TestCase):
             users = os.path.join(folder, "users")
             with open(users, "w", encoding="ascii") as file:
                 file.write(adduser.line("anna", 1, b"salmon", 1000) + "\n")
-            with Boxd("--quiet", "--users", users) as host, Panel(host.port, "--user", "anna", secret="salmon") as panel, \
+            with Boxd("--users", users) as host, Panel(host.port, "--user", "anna", secret="salmon") as panel, \
                     Panel(host.port) as nobody, Panel(host.port, "--user", "anna", secret="trout") as wrong:
                 panel.wait_until(answers)
                 self.assertEqual(panel.press(3, True)[0], 200)
@@ -567,7 +567,7 @@ class Case(unittest.TestCase):
             users = os.path.join(folder, "users")
             with open(users, "w", encoding="ascii") as file:
                 file.write(adduser.line("anna", 1, b"salmon", 1000, strict=True) + "\n")
-            with Boxd("--quiet", "--strict", "--users", users) as host, Panel(host.port, "--user", "anna", secret="salmon") as panel:
+            with Boxd("--strict", "--users", users) as host, Panel(host.port, "--user", "anna", secret="salmon") as panel:
                 panel.wait_until(answers)
                 self.assertEqual(panel.press(3, True)[0], 200)
                 self.assertEqual(panel.pulse(5, 20)[::2], (200, "The pulse of relay 5, 20 ms, has begun.\n"))
@@ -578,7 +578,7 @@ class Case(unittest.TestCase):
 
     def test_start_and_end(self):
         """SIGTERM ends it cleanly; a port in use and a bad address say what to do."""
-        with Boxd("--quiet") as host, Panel(host.port) as panel:
+        with Boxd() as host, Panel(host.port) as panel:
             words = [sys.executable, os.path.join(ROOT, "panel", "panel.py")]
             for more, said in ((["--port", str(panel.port)], "choose another port with --port"), (["--box", "9200"], "Write for example --box")):
                 done = subprocess.run(words + more, stdout=subprocess.PIPE, stderr=subprocess.STDOUT, text=True, timeout=PATIENCE)
@@ -592,7 +592,7 @@ class Case(unittest.TestCase):
     def test_run(self):
         """`./run --panel` starts both; Ctrl-C ends both, and so does `quit`, and even a kill of the box."""
         for end in ("Ctrl-C", "quit", "a kill"):
-            words = [os.path.join(ROOT, "run"), "--quiet", "--panel", "--panel-port", "0", "--listen", f"127.0.0.1:{free_port()}"]
+            words = [os.path.join(ROOT, "run"), "--panel", "--panel-port", "0", "--listen", f"127.0.0.1:{free_port()}"]
             with self.subTest(end), Program(words, start_new_session=True) as both:
                 both.port = int(both.wait_for(r"open http://127\.0\.0\.1:(\d+)/").group(1))
                 both.wait_for(r"127\.0\.0\.1:\d+ connected, administrator")
