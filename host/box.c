@@ -59,19 +59,37 @@ static unsigned closed_relays(const box *b)
     return closed;
 }
 
+/* The relays that are not as they were; whoever waits for that is told. */
+static unsigned switched_since(const box *b, unsigned closed)
+{
+    unsigned switched = closed ^ closed_relays(b);
+    if (switched != 0 && b->switched != NULL) {
+        b->switched(b->whom, b);
+    }
+    return switched;
+}
+
+static uint32_t next_part(const box *b, uint64_t now)
+{
+    uint64_t part = now - b->told;
+    part = box_next(b) < now ? box_next(b) - b->told : part;
+    return part > UINT32_MAX ? UINT32_MAX : (uint32_t)part;
+}
+
 /* No pulse is asked for while the time is told: as many as are fewer then have ended. */
 passed box_time(box *b, uint64_t now)
 {
     const wellacorn_queue before = b->lent.board.queue;
     unsigned closed = closed_relays(b);
     while (now > b->told) {
-        uint64_t d = now - b->told;
-        uint32_t part = d > UINT32_MAX ? UINT32_MAX : (uint32_t)d;
+        uint32_t part = next_part(b, now);
+        unsigned were = closed_relays(b);
         wellacorn_box_pass(&b->lent, part);
         b->told += part;
         if (b->trace != NULL) {
             fprintf(b->trace, "pass %" PRIu32 "\n", part);
         }
+        switched_since(b, were);
     }
     return (passed){
         .first = before.first,
@@ -112,7 +130,11 @@ wellacorn_done box_fill(box *b, uint8_t place)
     if (b->trace != NULL) {
         fprintf(b->trace, "fill %u\n", place);
     }
-    return wellacorn_box_fill(&b->lent, place);
+    wellacorn_done done = wellacorn_box_fill(&b->lent, place);
+    if (b->switched != NULL) {
+        b->switched(b->whom, b);
+    }
+    return done;
 }
 
 /* Of the pulses that stand, how many have relays of a module at this place in their masks. */
@@ -136,7 +158,7 @@ emptied box_empty(box *b, uint8_t place)
         fprintf(b->trace, "empty %u\n", place);
     }
     wellacorn_done done = wellacorn_box_empty(&b->lent, place);
-    return (emptied){.done = done, .was_filled = was_filled, .switched = closed ^ closed_relays(b), .pulses = pulses};
+    return (emptied){.done = done, .was_filled = was_filled, .switched = switched_since(b, closed), .pulses = pulses};
 }
 
 wellacorn_done box_level(box *b, uint8_t k, uint8_t v)
@@ -172,7 +194,7 @@ came box_bytes(box *b, uint8_t c, const uint8_t *piece, size_t n)
         fprintf(b->trace, "bytes %u %zu ", c, sizeof b->reply);
         trace_hex(b->trace, piece, (size_t)done.taken);
     }
-    return (came){.done = done, .read = got + done.taken, .switched = closed ^ closed_relays(b)};
+    return (came){.done = done, .read = got + done.taken, .switched = switched_since(b, closed)};
 }
 
 wellacorn_done box_collect(box *b, uint8_t c)

@@ -6,11 +6,13 @@
 
 #include <stdio.h>
 
-typedef struct {
+typedef struct box {
     wellacorn_box lent;                 /* the same in every call; read elsewhere, and written to by the library alone */
     uint8_t reply[WELLACORN_REPLY];     /* the reply of the last call: to be sent or queued before the next */
     uint64_t told;                      /* ms that the box has been told of */
     FILE *trace;                        /* each call as a line of docs/REPLAY.md, or NULL */
+    void (*switched)(void *whom, const struct box *b);      /* called behind each call by which relays changed, came or went; or NULL */
+    void *whom;
 } box;
 
 /* What a call of box_bytes came to. */
@@ -39,7 +41,8 @@ typedef struct {
 
 void box_power_up(box *b, const wellacorn_settings *settings, FILE *trace);
 
-/* Tells the box the time: `now` ms have passed since power-up, in all. Each ms is told once. */
+/* Tells the box the time: `now` ms have passed since power-up, in all. Each ms is told once, in parts that end where a pulse does: so each change of
+ * a relay is behind a call of its own, however late the time is told. */
 passed box_time(box *b, uint64_t now);
 
 /* When the running pulse ends, in ms since power-up: the time is to be told then, or its relays stay switched. UINT64_MAX if none runs. */

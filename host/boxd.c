@@ -6,12 +6,15 @@
 
 #include "box.h"
 #include "commands.h"
+#include "counts.h"
 #include "custom.h"
 #include "guests.h"
+#include "io.h"
 #include "line.h"
 #include "login.h"
 #include "morning.h"
 #include "options.h"
+#include "quiet.h"
 #include "say.h"
 #include "told.h"
 #include "users.h"
@@ -40,9 +43,13 @@ enum {
 
 /* Places in the list that is polled. */
 enum {
-    AT_STOP,
+    AT_SIGNAL,
     AT_COMMANDS,
     AT_PRINT,
+    AT_IO_DOOR,
+    AT_IO_IN,
+    AT_IO_OUT,
+    AT_SAVER,
     AT_DOOR,
     AT_LINES,
     AT_GUESTS = AT_LINES + WELLACORN_CONNECTIONS,
@@ -57,9 +64,13 @@ typedef struct {
     line lines[WELLACORN_CONNECTIONS];
     login logins[WELLACORN_CONNECTIONS];
     heard heard[WELLACORN_CONNECTIONS];
+    quiet quiet[WELLACORN_CONNECTIONS];
+    quiet_limits limits;
     refusal last_refused;       /* on any connection */
     guest guests[GUESTS];
     morning morning;
+    io io;
+    counts counts;
     commands commands;
     struct timespec start;
     uint64_t now;               /* ms since the start, as the box has been told */
@@ -68,7 +79,7 @@ typedef struct {
     bool failed;                /* the box ends because it cannot go on */
 } host;
 
-static int stop_pipe[2];
+static int signal_pipe[2];
 
 /* ---- Time */
 
@@ -85,6 +96,7 @@ static void tell_time(host *h)
 {
     h->now = clock_ms(h);
     passed it = box_time(&h->box, h->now);
+    say_as(SAY_BOX);
     told_time(&h->box, &it);
 }
 
@@ -103,22 +115,34 @@ static void open_line(host *h, uint8_t c, int fd, const char *peer)
     line_open(&h->lines[c], fd, peer);
     login_fresh(&h->logins[c]);
     h->heard[c] = (heard){0};
+    quiet_open(&h->quiet[c], h->now, rank > 0);
+    say_known(c, rank > 0);
     box_connect(&h->box, c, rank, strict);
+    say_as(SAY_DOOR);
     say("connection %u: %s connected, %s%s", c, peer, told_rank(rank), told_strict(strict));
 }
 
-static void close_line(host *h, uint8_t c, const char *why)
+/* Closes it for the box. Its socket is the caller's then. */
+static int leave_line(host *h, uint8_t c, const char *why)
 {
     uint64_t half = h->box.lent.halves[c].got;
+    say_as(SAY_CONNECTION + c);
     told_rest(&h->heard[c], c);
     box_close(&h->box, c);
-    line_shut(&h->lines[c]);
     login_fresh(&h->logins[c]);
+    say_as(SAY_DOOR);
+    say_left_out(c);
     if (half > 0) {
         say("connection %u closed: %s; %" PRIu64 " bytes of an unfinished message were dropped", c, why, half);
     } else {
         say("connection %u closed: %s", c, why);
     }
+    return line_give_up(&h->lines[c]);
+}
+
+static void close_line(host *h, uint8_t c, const char *why)
+{
+    close(leave_line(h, c, why));
 }
 
 /* ---- Messages that the library does not offer, and that are the host's */
@@ -200,8 +224,11 @@ static void go_on_with_login(host *h, uint8_t c)
     uint8_t content[2], frame[LOGIN_REPLY];
     login_answer(content, rank);
     line_queue(&h->lines[c], frame, frame_of(frame, content, sizeof content));
+    say_as(SAY_LOGINS);
     tell_login(h, c, rank);
     if (l->stage == LOGIN_RIGHT && l->who != NULL) {
+        quiet_known(&h->quiet[c], h->now);
+        say_known(c, true);
         box_close(&h->box, c);
         box_connect(&h->box, c, rank, is_strict(h, l->who));
     }
@@ -222,9 +249,11 @@ static void serve(host *h, uint8_t c)
 {
     line *l = &h->lines[c];
     const uint8_t *piece;
+    say_as(SAY_CONNECTION + c);
     for (int i = 0; i < TURN && can_serve(h, c); i++) {
         size_t n = line_untaken(l, &piece);
         came it = box_bytes(&h->box, c, piece, n);
+        quiet_heard(&h->quiet[c], h->now, it.done.answer);
         line_took(l, (size_t)it.done.taken);
         line_queue(l, h->box.reply, (size_t)it.done.len);
         if (!begins_login(h, c, &it) && !answers_custom(h, c, &it)) {
@@ -263,17 +292,21 @@ static void turn_line(host *h, uint8_t c)
     serve(h, c);
     go_on_with_login(h, c);
     collect(h, c);
+    const char *over = quiet_over(&h->quiet[c], &h->limits, h->now);
     if (!line_write(&h->lines[c])) {
         close_line(h, c, strerror(errno));
     } else if (is_finished(h, c)) {
         close_line(h, c, "the client hung up");
+    } else if (over != NULL) {
+        close_line(h, c, over);
     }
 }
 
+/* It is read while a login is weighed too, as far as there is room: who hangs up meanwhile is to be noticed. */
 static void read_line(host *h, uint8_t c, short events)
 {
     line *l = &h->lines[c];
-    bool reads = line_reads(l) && !login_is_on(&h->logins[c]);
+    bool reads = line_reads(l);
     if (events != 0 && reads && !line_read(l)) {
         close_line(h, c, strerror(errno));
     } else if ((events & (POLLERR | POLLHUP | POLLNVAL)) != 0 && !reads) {
@@ -283,24 +316,41 @@ static void read_line(host *h, uint8_t c, short events)
 
 /* ---- New clients */
 
-static bool prepare(int fd)
+static bool prepare(const host *h, int fd)
 {
     int on = 1, queue = SYSTEM_QUEUE;
     setsockopt(fd, SOL_SOCKET, SO_SNDBUF, &queue, sizeof queue);
     setsockopt(fd, IPPROTO_TCP, TCP_NODELAY, &on, sizeof on);
-    setsockopt(fd, SOL_SOCKET, SO_KEEPALIVE, &on, sizeof on);
+    quiet_watch_link(fd, &h->limits);
     return fcntl(fd, F_SETFL, O_NONBLOCK) == 0 && fcntl(fd, F_SETFD, FD_CLOEXEC) == 0;
+}
+
+/* A connection that is free, or that nobody has logged in on; -1: there is none. */
+static int place_for_newcomer(host *h)
+{
+    for (uint8_t c = 0; c < WELLACORN_CONNECTIONS; c++) {
+        if (!line_is_open(&h->lines[c])) {
+            return c;
+        }
+    }
+    int c = quiet_displaced(h->quiet);
+    if (c >= 0) {
+        int fd = leave_line(h, (uint8_t)c, "nobody has logged in on it, and its place was needed");
+        guests_turn_away(h->guests, h->now, fd, "Nobody has logged in on this connection, and its place was needed. Connect again and log in.");
+    }
+    return c;
 }
 
 static void welcome(host *h, int fd, const char *peer)
 {
-    for (uint8_t c = 0; c < WELLACORN_CONNECTIONS; c++) {
-        if (!line_is_open(&h->lines[c])) {
-            open_line(h, c, fd, peer);
-            return;
-        }
+    int c = place_for_newcomer(h);
+    if (c >= 0) {
+        open_line(h, (uint8_t)c, fd, peer);
+        return;
     }
-    guests_turn_away(h->guests, h->now, fd, peer);
+    say_as(SAY_DOOR);
+    say("%s was told that all four connections are in use, and turned away", peer);
+    guests_turn_away(h->guests, h->now, fd, "All four connections of this box are in use. Close one of them, or try again later.");
 }
 
 /* Takes one new client. Whether there may be more. */
@@ -313,7 +363,8 @@ static bool admit(host *h)
     if (fd < 0 && (errno == EAGAIN || errno == EWOULDBLOCK || errno == EINTR || errno == ECONNABORTED)) {
         return false;
     }
-    if (fd < 0 || !prepare(fd)) {
+    if (fd < 0 || !prepare(h, fd)) {
+        say_as(SAY_DOOR);
         say("a client could not be admitted: %s. The next try is in a second; free memory or raise `ulimit -n`", strerror(errno));
         h->accept_after = h->now + ACCEPT_AGAIN;
         if (fd >= 0) {
@@ -339,10 +390,14 @@ static int patience(const host *h)
     uint64_t next = h->now + LONGEST_WAIT;
     for (uint8_t c = 0; c < WELLACORN_CONNECTIONS; c++) {
         next = can_serve(h, c) || can_collect(h, c) ? h->now : earlier(next, login_next(&h->logins[c], h->now));
+        next = line_is_open(&h->lines[c]) ? earlier(next, quiet_next(&h->quiet[c], &h->limits)) : next;
     }
     next = earlier(next, box_next(&h->box));
     next = earlier(next, guests_next(h->guests));
     next = h->options.simulate ? earlier(next, morning_next(&h->morning)) : next;
+    next = earlier(next, io_next(&h->io, h->now));
+    next = earlier(next, counts_next(&h->counts, &h->box));
+    next = say_patience() < LONGEST_WAIT ? earlier(next, h->now + say_patience()) : next;
     next = h->accept_after > h->now ? earlier(next, h->accept_after) : next;
     return next <= h->now ? 0 : (int)(next - h->now);
 }
@@ -354,13 +409,17 @@ static void watch(struct pollfd *place, int fd, short events)
 
 static void watch_all(const host *h, struct pollfd polled[POLLED])
 {
-    watch(&polled[AT_STOP], stop_pipe[0], POLLIN);
-    watch(&polled[AT_COMMANDS], h->commands.over ? -1 : STDIN_FILENO, POLLIN);
-    watch(&polled[AT_PRINT], say_waits() ? STDOUT_FILENO : -1, POLLOUT);
+    watch(&polled[AT_SIGNAL], signal_pipe[0], POLLIN);
+    watch(&polled[AT_COMMANDS], h->commands.over ? -1 : h->commands.fd, POLLIN);
+    watch(&polled[AT_PRINT], say_waits(), POLLOUT);
+    watch(&polled[AT_IO_DOOR], h->io.door, POLLIN);
+    watch(&polled[AT_IO_IN], h->io.in, POLLIN);
+    watch(&polled[AT_IO_OUT], io_waits(&h->io) ? h->io.out : -1, POLLOUT);
+    watch(&polled[AT_SAVER], h->counts.back, POLLIN);
     watch(&polled[AT_DOOR], h->accept_after > h->now ? -1 : h->listener, POLLIN);
     for (int c = 0; c < WELLACORN_CONNECTIONS; c++) {
         const line *l = &h->lines[c];
-        bool reads = line_is_open(l) && line_reads(l) && !login_is_on(&h->logins[c]);
+        bool reads = line_is_open(l) && line_reads(l);
         bool writes = line_is_open(l) && line_unsent(l) > 0;
         watch(&polled[AT_LINES + c], l->fd, (short)((reads ? POLLIN : 0) | (writes ? POLLOUT : 0)));
     }
@@ -371,9 +430,24 @@ static void watch_all(const host *h, struct pollfd polled[POLLED])
 
 /* ---- A turn */
 
+/* SIGHUP: the log has been put away under another name. False: a signal that ends the box. */
+static bool read_signals(void)
+{
+    char some[16];
+    ssize_t n = read(signal_pipe[0], some, sizeof some);
+    for (ssize_t i = 0; i < n; i++) {
+        if (some[i] != SIGHUP) {
+            return false;
+        }
+        say_open_anew();
+    }
+    return true;
+}
+
 static bool read_commands(host *h)
 {
     const char *peers[WELLACORN_CONNECTIONS];
+    say_as(SAY_PERSON);
     for (int c = 0; c < WELLACORN_CONNECTIONS; c++) {
         peers[c] = line_is_open(&h->lines[c]) ? h->lines[c].peer : NULL;
     }
@@ -392,6 +466,18 @@ static void turn_lines(host *h, const struct pollfd polled[POLLED])
             turn_line(h, c);
         }
     }
+}
+
+/* What the inputs have to tell, simulated or real, and the counts that come of it. */
+static void turn_inputs(host *h, const struct pollfd polled[POLLED])
+{
+    say_as(SAY_BOX);
+    if (h->options.simulate) {
+        morning_turn(&h->morning, &h->box, h->now);
+    }
+    io_turn(&h->io, &h->box, h->now, polled[AT_IO_IN].revents != 0, polled[AT_IO_DOOR].revents != 0);
+    say_as(SAY_BOX);
+    counts_turn(&h->counts, &h->box, h->now, polled[AT_SAVER].revents != 0);
 }
 
 static void keep_trace(box *b)
@@ -420,12 +506,10 @@ static bool turn(host *h)
         memset(polled, 0, sizeof polled);       /* a signal: the pipe tells the next poll */
     }
     tell_time(h);
-    if (polled[AT_STOP].revents != 0 || (polled[AT_COMMANDS].revents != 0 && !read_commands(h))) {
+    if ((polled[AT_SIGNAL].revents != 0 && !read_signals()) || (polled[AT_COMMANDS].revents != 0 && !read_commands(h))) {
         return false;
     }
-    if (h->options.simulate) {
-        morning_turn(&h->morning, &h->box, h->now);
-    }
+    turn_inputs(h, polled);
     turn_lines(h, polled);
     for (int i = 0; i < GUESTS; i++) {
         guests_turn(&h->guests[i], h->now, polled[AT_GUESTS + i].revents != 0);
@@ -438,24 +522,30 @@ static bool turn(host *h)
 
 /* ---- Beginning and end */
 
-static void stop(int number)
+static void pass_on(int number)
 {
     int kept = errno;
-    (void)number;
-    if (write(stop_pipe[1], "", 1) < 0) {
+    const char told = (char)number;
+    if (write(signal_pipe[1], &told, 1) < 0) {
         /* it is full: the box has been told already */
     }
     errno = kept;
 }
 
-static bool catch_signals(void)
+/* Without a log file SIGHUP ends the box as ever: its terminal is gone. A file that has grown too large is an error of its writing, no signal. */
+static bool catch_signals(const options *o)
 {
-    struct sigaction end = {.sa_handler = stop}, ignored = {.sa_handler = SIG_IGN};
-    if (pipe(stop_pipe) != 0) {
-        return false;
+    const int ended[] = {SIGINT, SIGTERM, SIGHUP}, ignored[] = {SIGPIPE, SIGXFSZ};
+    struct sigaction passed_on = {.sa_handler = pass_on}, nothing = {.sa_handler = SIG_IGN};
+    bool good = pipe(signal_pipe) == 0;
+    for (int end = 0; end < 2 && good; end++) {
+        good = fcntl(signal_pipe[end], F_SETFL, O_NONBLOCK) == 0 && fcntl(signal_pipe[end], F_SETFD, FD_CLOEXEC) == 0;
+        good = good && sigaction(ignored[end], &nothing, NULL) == 0;
     }
-    fcntl(stop_pipe[1], F_SETFL, O_NONBLOCK);
-    return sigaction(SIGINT, &end, NULL) == 0 && sigaction(SIGTERM, &end, NULL) == 0 && sigaction(SIGPIPE, &ignored, NULL) == 0;
+    for (int i = 0; i < (o->log != NULL ? 3 : 2) && good; i++) {
+        good = sigaction(ended[i], &passed_on, NULL) == 0;
+    }
+    return good;
 }
 
 static const char *listen_advice(int error)
@@ -481,7 +571,7 @@ static bool listen_at(host *h)
     h->listener = socket(o->address.ss_family, SOCK_STREAM, 0);
     if (h->listener < 0 || setsockopt(h->listener, SOL_SOCKET, SO_REUSEADDR, &on, sizeof on) != 0 ||
         bind(h->listener, (const struct sockaddr *)&o->address, o->address_len) != 0 || listen(h->listener, 16) != 0 ||
-        fcntl(h->listener, F_SETFL, O_NONBLOCK) != 0) {
+        fcntl(h->listener, F_SETFL, O_NONBLOCK) != 0 || fcntl(h->listener, F_SETFD, FD_CLOEXEC) != 0) {
         fprintf(stderr, "boxd: cannot listen on %s: %s. %s\n", words, strerror(errno), listen_advice(errno));
         return false;
     }
@@ -531,33 +621,62 @@ static void fill_standard(void)
     close(fd);
 }
 
-static bool begin(host *h)
+/* Reads and opens the files that are named. False where one cannot be used: it has said so. */
+static bool open_files(host *h)
 {
-    FILE *trace = NULL;
-    fill_standard();
-    if (h->options.users != NULL) {
-        if (!users_read(&h->users, h->options.users)) {
-            return false;
-        }
-        h->door.users = &h->users;
-    }
-    if (h->options.trace != NULL && (trace = open_trace(h->options.trace)) == NULL) {
+    const options *o = &h->options;
+    if (o->users != NULL && !users_read(&h->users, o->users)) {
         return false;
     }
+    h->door.users = o->users == NULL ? NULL : &h->users;
+    if (o->trace != NULL && (h->box.trace = open_trace(o->trace)) == NULL) {
+        return false;
+    }
+    if (o->log != NULL && !say_open(o->log)) {
+        fprintf(stderr, "boxd: the log %s cannot be written: %s. Name another file after --log\n", o->log, strerror(errno));
+        return false;
+    }
+    return true;
+}
+
+static void tell_io(void *whom, const box *b)
+{
+    io_relays(whom, b);
+}
+
+static void power_up(host *h)
+{
+    clock_gettime(CLOCK_MONOTONIC, &h->start);
+    box_power_up(&h->box, &h->options.settings, h->box.trace);
+    h->box.switched = tell_io;
+    h->box.whom = &h->io;
+    morning_begin(&h->morning, h->options.seed, 0);
+}
+
+static bool begin(host *h)
+{
+    const options *o = &h->options;
+    fill_standard();
+    h->limits = (quiet_limits){.idle = o->idle * 1000, .login = o->users == NULL ? UINT64_MAX : o->login_time * 1000, .link = o->link_time * 1000};
     for (int c = 0; c < WELLACORN_CONNECTIONS; c++) {
         h->lines[c].fd = -1;
     }
     guests_begin(h->guests);
-    if (!catch_signals()) {
+    commands_begin(&h->commands, STDIN_FILENO, true);
+    if (!counts_begin(&h->counts, o->counts) || !open_files(h)) {
+        return false;
+    }
+    if (!catch_signals(o)) {
         fprintf(stderr, "boxd: signals cannot be caught: %s. Raise `ulimit -n` or end other programs\n", strerror(errno));
         return false;
     }
-    if (!listen_at(h)) {
+    if (!listen_at(h) || !io_begin(&h->io, o->io_command, o->io_socket)) {
         return false;
     }
-    clock_gettime(CLOCK_MONOTONIC, &h->start);
-    box_power_up(&h->box, &h->options.settings, trace);
-    morning_begin(&h->morning, h->options.seed, 0);
+    power_up(h);
+    if (!counts_restore(&h->counts, &h->box)) {
+        return false;
+    }
     greet(h);
     return true;
 }
@@ -572,6 +691,9 @@ static void end(host *h)
     }
     guests_end(h->guests);
     close(h->listener);
+    say_as(SAY_PERSON);
+    io_end(&h->io);
+    counts_end(&h->counts, &h->box);
     keep_trace(&h->box);
     if (h->box.trace != NULL) {
         fclose(h->box.trace);

@@ -1,4 +1,4 @@
-/* The commands on standard input. */
+/* Commands, one a line, from a person or from the program that knows the inputs. */
 #define _POSIX_C_SOURCE 200809L
 
 #include "commands.h"
@@ -14,7 +14,10 @@
 
 enum { WORDS = 4 };     /* one more than a command has, to see that there are too many */
 
-static const char commands_known[] = "write `level K V`, `filled P`, `emptied P`, `state` or `quit`";
+static const char *known(const commands *c)
+{
+    return c->person ? "write `level K V`, `filled P`, `emptied P`, `state` or `quit`" : "write `level K V`, `filled P` or `emptied P`";
+}
 
 static size_t split(char *text, char *words[WORDS])
 {
@@ -34,7 +37,8 @@ static uint8_t byte(const char *word)
     return x <= 255 ? (uint8_t)x : 255;
 }
 
-static void level(box *b, const char *input, const char *value)
+/* A program may tell a level again and again: that nothing changed is said to a person alone. */
+static void level(box *b, const char *input, const char *value, bool person)
 {
     uint8_t k = byte(input), v = byte(value);
     const wellacorn_input *inputs = b->lent.board.inputs;
@@ -42,9 +46,9 @@ static void level(box *b, const char *input, const char *value)
     wellacorn_done done = box_level(b, k, v);
     if (done.answer != WELLACORN_SERVED) {
         say("level refused (%u): write `level K V` with K from 1 to 8 and V 1 (on) or 0 (off)", done.answer);
-    } else if (was == (v == 1)) {
+    } else if (was == (v == 1) && person) {
         say("input %u was %s already: nothing changed", k, v == 1 ? "on" : "off");
-    } else {
+    } else if (was != (v == 1)) {
         say("input %u is %s: %" PRIu64 " counted", k, v == 1 ? "on" : "off", inputs[k - 1].count);
     }
 }
@@ -83,26 +87,26 @@ static void pulled(box *b, const char *word)
     }
 }
 
-static bool obey(char *text, box *b, const char *const peers[WELLACORN_CONNECTIONS])
+static bool obey(commands *c, box *b, const char *const peers[WELLACORN_CONNECTIONS])
 {
     char *words[WORDS];
-    size_t n = split(text, words);
+    size_t n = split(c->text, words);
     if (n == 0) {
         return true;
     }
-    if (n == 1 && strcmp(words[0], "quit") == 0) {
+    if (c->person && n == 1 && strcmp(words[0], "quit") == 0) {
         return false;
     }
-    if (n == 1 && strcmp(words[0], "state") == 0) {
+    if (c->person && n == 1 && strcmp(words[0], "state") == 0) {
         told_state(b, peers);
     } else if (n == 3 && strcmp(words[0], "level") == 0) {
-        level(b, words[1], words[2]);
+        level(b, words[1], words[2], c->person);
     } else if (n == 2 && strcmp(words[0], "filled") == 0) {
         filled(b, words[1]);
     } else if (n == 2 && strcmp(words[0], "emptied") == 0) {
         pulled(b, words[1]);
     } else {
-        say("no such command: %s", commands_known);
+        say("no such command: %s", known(c));
     }
     return true;
 }
@@ -121,16 +125,21 @@ static bool take(commands *c, char ch, box *b, const char *const peers[WELLACORN
     c->n = 0;
     c->too_long = false;
     if (cut) {
-        say("a line that long is no command: %s", commands_known);
+        say("a line that long is no command: %s", known(c));
         return true;
     }
-    return obey(c->text, b, peers);
+    return obey(c, b, peers);
+}
+
+void commands_begin(commands *c, int fd, bool person)
+{
+    *c = (commands){.fd = fd, .person = person};
 }
 
 bool commands_read(commands *c, box *b, const char *const peers[WELLACORN_CONNECTIONS])
 {
     char some[COMMANDS_LINE];
-    ssize_t n = read(STDIN_FILENO, some, sizeof some);
+    ssize_t n = read(c->fd, some, sizeof some);
     if (n == 0 || (n < 0 && errno != EINTR && errno != EAGAIN)) {
         c->over = true;
     }

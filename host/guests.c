@@ -4,14 +4,16 @@
 #include "guests.h"
 
 #include "box.h"
-#include "say.h"
 
 #include <errno.h>
+#include <stdio.h>
+#include <string.h>
 #include <sys/socket.h>
 #include <unistd.h>
 
 enum {
     STAYS = 1000,           /* ms that a guest has to read why */
+    TEXT = 256,             /* bytes of that, at most */
     SCRAP = 4096
 };
 
@@ -42,17 +44,17 @@ void guests_begin(guest all[GUESTS])
 }
 
 /* A Textual Response, type 3, with its newline and its final zero. */
-void guests_turn_away(guest all[GUESTS], uint64_t now, int fd, const char *peer)
+void guests_turn_away(guest all[GUESTS], uint64_t now, int fd, const char *why)
 {
-    static const char text[] = "\003All four connections of this box are in use. Close one of them, or try again later.\n";
+    char text[TEXT];
     uint8_t frame[sizeof text + 5];
-    size_t n = frame_of(frame, (const uint8_t *)text, sizeof text);
+    snprintf(text, sizeof text, "\003%s\n", why);
+    size_t n = frame_of(frame, (const uint8_t *)text, strlen(text) + 1);
     guest *g = place(all);
     send(fd, frame, n, MSG_NOSIGNAL);
     shutdown(fd, SHUT_WR);
     g->fd = fd;
     g->until = now + STAYS;
-    say("%s was told that all four connections are in use, and turned away", peer);
 }
 
 void guests_turn(guest *g, uint64_t now, bool ready)

@@ -14,7 +14,9 @@ typedef struct {
 } guest;
 
 void guests_begin(guest all[GUESTS]);
-void guests_turn_away(guest all[GUESTS], uint64_t now, int fd, const char *peer);
+
+/* Why is the text of a Textual Response, without its newline. */
+void guests_turn_away(guest all[GUESTS], uint64_t now, int fd, const char *why);
 
 /* Goes on with one of them; `ready`: its socket has something to read. */
 void guests_turn(guest *g, uint64_t now, bool ready);

@@ -18,13 +18,12 @@ void line_open(line *l, int fd, const char *peer)
     snprintf(l->peer, sizeof l->peer, "%s", peer);
 }
 
-void line_shut(line *l)
+int line_give_up(line *l)
 {
-    if (l->fd >= 0) {
-        close(l->fd);
-    }
+    int fd = l->fd;
     memset(l->in, 0, sizeof l->in);
     l->fd = -1;
+    return fd;
 }
 
 bool line_is_open(const line *l)

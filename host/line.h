@@ -25,7 +25,9 @@ typedef struct {
 } line;
 
 void line_open(line *l, int fd, const char *peer);
-void line_shut(line *l);
+
+/* Shuts it; gives its socket, which is the caller's now. */
+int line_give_up(line *l);
 bool line_is_open(const line *l);
 
 /* Whether the queue has room for a whole longest reply. */

@@ -365,6 +365,8 @@ class Events(Case):
         process = subprocess.Popen(words, stdin=subprocess.PIPE, stdout=subprocess.PIPE)
         try:
             port = int(process.stdout.readline().decode().rsplit(":", 1)[1])
+            process.stdin.write(b"state\n" * 200)           # forty lines each
+            process.stdin.flush()
             with Client(port) as client:
                 client.talk(frame(b"\x05\x00\x00") * 9000, random.Random("unread"), 3000)
                 self.assertEqual([content[0] for content in client.contents()].count(6), 9000)
@@ -422,8 +424,8 @@ class Pulses(Case):
         return client.ask(HOW_MANY, 254)[4]
 
     def said(self, host, pattern):
-        """What the host said that fits, in its order, without the time of day."""
-        return [line.split(" ", 1)[1] for line in list(host.lines) if re.search(pattern, line)]
+        """What the host said that fits, in its order, without date and time."""
+        return [line.split(" ", 2)[2] for line in list(host.lines) if re.search(pattern, line)]
 
     def test_begins_and_ends(self):
         """The relay opens again by itself, in a box that nothing else wakes, and was closed for that long to the ms."""
@@ -776,7 +778,7 @@ class Refused(Case):
             client.finish()
             host.quit()
             judge(host, [client])
-        found = [line.split(" ", 1)[1] for line in host.lines if "byte 0" in line]
+        found = [line.split(" ", 2)[2] for line in host.lines if "byte 0" in line]
         self.assertEqual([line[:len(words)] for line, words in zip(found, expected)], expected)
         self.assertEqual(len(found), len(expected))
         self.assertGreater(len(expected), 80)
