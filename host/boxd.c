@@ -302,6 +302,13 @@ static void turn_line(host *h, uint8_t c)
     }
 }
 
+static const char *what_broke(int fd)
+{
+    int error = 0;
+    socklen_t len = sizeof error;
+    return getsockopt(fd, SOL_SOCKET, SO_ERROR, &error, &len) == 0 && error != 0 ? strerror(error) : "the client is gone";
+}
+
 /* It is read while a login is weighed too, as far as there is room: who hangs up meanwhile is to be noticed. */
 static void read_line(host *h, uint8_t c, short events)
 {
@@ -310,7 +317,7 @@ static void read_line(host *h, uint8_t c, short events)
     if (events != 0 && reads && !line_read(l)) {
         close_line(h, c, strerror(errno));
     } else if ((events & (POLLERR | POLLHUP | POLLNVAL)) != 0 && !reads) {
-        close_line(h, c, "the client is gone");
+        close_line(h, c, what_broke(l->fd));
     }
 }
 

@@ -287,6 +287,7 @@ void io_turn(io *i, box *b, uint64_t now, bool reads, bool knocks)
     if (knocks) {
         answer_door(i, b);
     }
+    io_relays(i, b);            /* there is room again, and what found none is told now */
     write_lines(i);
 }
 
