@@ -287,6 +287,12 @@ static bool is_finished(const host *h, uint8_t c)
     return l->ended && !login_is_on(&h->logins[c]) && line_untaken(l, &bytes) == 0 && line_unsent(l) == 0 && !box_due(&h->box, c);
 }
 
+/* The client has hung up with a wrong password as its last word, and nobody has logged in: its refusal is not held back for an empty place. */
+static bool is_given_up(const host *h, uint8_t c)
+{
+    return h->lines[c].ended && !h->quiet[c].known && h->logins[c].stage == LOGIN_HELD;
+}
+
 static void turn_line(host *h, uint8_t c)
 {
     serve(h, c);
@@ -295,7 +301,7 @@ static void turn_line(host *h, uint8_t c)
     const char *over = quiet_over(&h->quiet[c], &h->limits, h->now);
     if (!line_write(&h->lines[c])) {
         close_line(h, c, strerror(errno));
-    } else if (is_finished(h, c)) {
+    } else if (is_finished(h, c) || is_given_up(h, c)) {
         close_line(h, c, "the client hung up");
     } else if (over != NULL) {
         close_line(h, c, over);

@@ -21,7 +21,7 @@ import unittest
 
 from boxd import Boxd, CLOCK, Client, PATIENCE, PROGRAM, Program, ROOT, command, frame, judge, login, pulse
 from model import INPUT_IDS, field, number
-from test_host import Case, adduser
+from test_host import Case, adduser, run_all
 
 KEEP_ALIVE = b"\x06"
 BAD = frame(b"\x05\x00\x00")[:3] + b"\x12\x34" + b"\x05\x00\x00"        # its checksum differs
@@ -92,30 +92,31 @@ class WithUsers(Case):
 
 class QuietLines(WithUsers):
     def test_idle(self):
-        """What is not served does not keep a connection; a keep-alive and a served message do.  One stays that sends one of them now and then."""
+        """What is not served does not keep a connection.  A keep-alive does, and a served message, as long as they come."""
         with Boxd("--idle", "3") as host:
-            stray, stays, silent = (Client(host.port) for _ in range(3))
-            over = threading.Event()
+            silent, refused, alive, served = (Client(host.port) for _ in range(4))
+            over, last = threading.Event(), {}
 
-            def keep():
-                turn = 0
-                while not over.wait(0.2):
-                    stays.socket.sendall((KEEP_ALIVE, CLOCK)[turn % 2])
-                    turn += 1
+            def keep(client, message):
+                while not over.wait(0.1):
+                    last[client] = time.monotonic()
+                    client.socket.sendall(message)
 
-            keeper = threading.Thread(target=keep)
-            keeper.start()
-            for took in (closed_after(silent), closed_after(stray, sending=b"x" + BAD + frame(b"\x63") + HALF + b"\xFF" * 4)):
-                self.assertLess(took, 3 + PATIENCE / 2)
-            self.assertGreaterEqual(time.monotonic() - host.up, 2.9)
-            time.sleep(2)                               # longer than the others stayed, in all
-            self.assertFalse(is_closed(stays))
-            over.set()
-            keeper.join()
-            stopped = time.monotonic()
-            closed_after(stays)
-            self.assertGreaterEqual(time.monotonic() - stopped, 2.5)
-            self.assertEqual(host.count("closed: no message was served for too long, nor was there a keep-alive"), 3)
+            def goes(client, sending):
+                self.assertLess(closed_after(client, sending=sending), PATIENCE / 2)
+                self.assertGreaterEqual(time.monotonic() - host.up, 2.9)
+
+            def stay():
+                time.sleep(7)                           # twice as long as the others stayed
+                over.set()
+                self.assertFalse(is_closed(alive) or is_closed(served))
+                for client in (alive, served):
+                    closed_after(client)
+                    self.assertGreaterEqual(time.monotonic() - last[client], 2.9)
+
+            run_all(lambda: goes(silent, b""), lambda: goes(refused, b"x" + BAD + frame(b"\x63") + HALF + b"\xFF" * 4), stay,
+                    lambda: keep(alive, KEEP_ALIVE), lambda: keep(served, CLOCK))
+            self.assertEqual(host.count("closed: no message was served for too long, nor was there a keep-alive"), 4)
             host.quit()
 
     def test_the_usual_times(self):
@@ -177,15 +178,21 @@ class QuietLines(WithUsers):
             self.assertFalse(host.find("turned away"))
             host.quit()
 
-    def test_hang_up_while_a_login_is_weighed(self):
-        """It is noticed at once by who comes meanwhile; here a client resets its connection while its refusal is held back."""
-        with Boxd("--users", self.users) as host, Client(host.port) as client:
-            client.send(login(b"eve", b"wrong") * 4)
-            client.next_of(125)                         # the second is held back two seconds
-            client.socket.setsockopt(socket.SOL_SOCKET, socket.SO_LINGER, b"\x01\x00\x00\x00\x00\x00\x00\x00")
-            client.close()
-            host.wait_for("connection 0 closed")
-            self.assertEqual(host.count("login of eve refused"), 1)
+    def test_hang_up_while_a_refusal_is_held_back(self):
+        """It is noticed at once, and the place is free: one who stays is refused later, though he was as wrong at the same time."""
+        with Boxd("--users", self.users) as host, Client(host.port) as stays, Client(host.port) as goes:
+            stays.send(login(b"eve", b"wrong") * 2)
+            goes.send(login(b"nils", b"wrong") * 2)
+            stays.next_of(125)
+            goes.next_of(125)                           # the second refusal is held back two seconds
+            goes.socket.shutdown(socket.SHUT_WR)
+            self.assertIsNone(goes.next_of(125))
+            host.wait_for("connection 1 closed: the client hung up")
+            wait_until("the other is refused", lambda: host.count("login of eve refused") == 2)
+            said = [line.split(" ", 2)[2] for line in host.lines]
+            second = len(said) - 1 - said[::-1].index("connection 0: login of eve refused")
+            self.assertLess(said.index("connection 1 closed: the client hung up"), second)
+            self.assertEqual(host.count("login of nils refused"), 1)
             host.quit()
 
     def test_dead_link(self):
