@@ -72,9 +72,7 @@ came box_bytes(box *b, uint8_t c, const uint8_t *piece, size_t n);
 /* Whether a Monitor or an External Monitor message is due on connection c. */
 bool box_due(const box *b, uint8_t c);
 
-/* The content of the message that the last box_bytes on connection c ended, where it was served or its content refused: a whole frame, not
- * WELLACORN_TOO_LONG. Of such a message 5 + N bytes have been read, and its content stands in the connection's room until that connection's
- * next call. Gives N. */
+/* The content of the message that the last box_bytes on connection c ended, served or refused: wellacorn_box_content of the header. */
 size_t box_content(const box *b, uint8_t c, const came *it, const uint8_t **content);
 
 /* Wraps content into a frame, for what the host itself has to say. Gives the frame's length; 5 + n bytes must fit. */

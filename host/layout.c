@@ -5,9 +5,9 @@
  * Each call is made on a box of which every word is another number, between words that are nobody's. Beside it stands what is expected: the
  * same words, and what the call does to them said by the names of the header. After the call the two must not differ in any word. So each
  * field is seen where some call changes it and no other, and what a call does not name is seen to stay: the unused words, the rooms of the
- * other connections, the other records of the row, the words around the box.
+ * other connections, the other records of the row, the words around the box. Likewise what the header's own functions keep in the box besides: how
+ * long the content is that a call has ended.
  */
-#include "frame.h"
 #include "wellacorn.h"
 
 #include <inttypes.h>
@@ -141,9 +141,24 @@ static void marked(uint8_t c, bool due, bool external)
     line->external = external ? 1 : line->external;
 }
 
+/* The remainder is c, and says so to the compiler, which has seen that the header takes every c. */
 static uint8_t *room_of(uint8_t c)
 {
-    return expected.box.rooms + (size_t)WELLACORN_CONTENT * c;
+    return expected.box.rooms + (size_t)WELLACORN_CONTENT * (c % WELLACORN_CONNECTIONS);
+}
+
+/* The call on connection c ends a content of n bytes, or none where n is 0. */
+static void ends(uint8_t c, size_t n)
+{
+    expected.box.ended[c] = n;
+}
+
+/* After a call of bytes: what the header says of the content is what is expected, and no connection is above 3. */
+static void same_content(const char *call, uint8_t c)
+{
+    const uint8_t *content = NULL;
+    same(call, "content length of connection", c, wellacorn_box_content(&found.box, c, &content), c <= 3 ? expected.box.ended[c] : 0);
+    same(call, "content place of connection", c, (uint64_t)(content - found.box.rooms), c <= 3 ? 1024u * c : 0);
 }
 
 /* A whole message of which the box keeps the content and makes no reply. */
@@ -152,7 +167,9 @@ static void send_at(const char *call, uint8_t c, const uint8_t *content, size_t 
     uint8_t frame[5 + WELLACORN_CONTENT] = {0x01, (uint8_t)(n >> 8), (uint8_t)n, 0xFF, 0xFF};
     memcpy(frame + 5, content, n);
     memcpy(room_of(c), content, n);
+    ends(c, n);
     came_to_at(call, wellacorn_box_bytes(&found.box, c, frame, 5 + n, reply, sizeof reply), answer, 5 + n, place, 0);
+    same_content(call, c);
 }
 
 static void send_for(const char *call, uint8_t c, const uint8_t *content, size_t n, uint8_t answer)
@@ -169,9 +186,9 @@ static void send(const char *call, uint8_t c, const uint8_t *content, size_t n)
 static void send_checked_for(const char *call, uint8_t c, const uint8_t *content, size_t n, uint8_t answer)
 {
     uint8_t frame[16];
-    frame_head(frame, content, n);
-    memcpy(frame + 5, content, n);
+    wellacorn_frame(frame, content, n);
     memcpy(room_of(c), content, n);
+    ends(c, n);
     came_to(call, wellacorn_box_bytes(&found.box, c, frame, 5 + n, reply, sizeof reply), answer, 5 + n, 0);
 }
 
@@ -198,6 +215,7 @@ static void try_power_up(int alarmed)
         board->inputs[k].alarm = k == alarmed;
         board->relays[k].usage_setpoint = s.relays[k];
     }
+    memset(expected.box.ended, 0, sizeof expected.box.ended);
     wellacorn_box_power_up(&found.box, s);
     same_lent("power-up");
 }
@@ -286,6 +304,7 @@ static void try_connect(uint8_t c, uint8_t rank, uint8_t strict, unsigned filled
     begin();
     board->lines[c] = (wellacorn_line){.is_open = 1, .rank = rank, .monitor = 1, .due = rank > 0, .strict = strict, .external = external};
     expected.box.halves[c] = nothing_read;
+    ends(c, 0);
     came_to("connect", wellacorn_box_connect(&found.box, c, rank, strict), WELLACORN_SERVED, 0, 0);
 }
 
@@ -305,6 +324,7 @@ static void try_close(uint8_t c)
     begin();
     board->lines[c] = (wellacorn_line){.is_open = 0};
     expected.box.halves[c] = nothing_read;
+    ends(c, 0);
     came_to("close", wellacorn_box_close(&found.box, c), WELLACORN_SERVED, 0, 0);
 }
 
@@ -393,6 +413,7 @@ static void try_request(uint8_t c, unsigned filled)
     line->external = words.external;
     begin();
     memcpy(room_of(c), frame + 5, 3);
+    ends(c, 3);
     came_to("request 1", wellacorn_box_bytes(&found.box, c, frame, sizeof frame, reply, sizeof reply), WELLACORN_SERVED, sizeof frame, len);
     same("request 1", "reply byte", 5, reply[5], 1);
     if (filled != NO_MODULE) {
@@ -763,6 +784,7 @@ static void try_half(uint8_t c)
     scribble();
     listening(c);
     begin();
+    ends(c, 0);
     for (size_t i = 0; i < COUNT(steps); i++) {
         expected.box.halves[c] = steps[i].half;
         came_to("half", wellacorn_box_bytes(&found.box, c, &steps[i].byte, 1, reply, sizeof reply), WELLACORN_WAITING, 1, 0);
@@ -780,10 +802,13 @@ static void try_room(uint8_t c)
     begin();
     memset(room_of(c), 0xC3, N - 1);
     expected.box.halves[c] = (wellacorn_half){.got = CUT, .len = N, .sum = 0xFFFF};
+    ends(c, 0);
     came_to("room", wellacorn_box_bytes(&found.box, c, frame, CUT, reply, sizeof reply), WELLACORN_WAITING, CUT, 0);
     memset(room_of(c), 0xC3, N);
     expected.box.halves[c] = nothing_read;
+    ends(c, N);
     came_to("room, full", wellacorn_box_bytes(&found.box, c, frame + CUT, 1, reply, sizeof reply), WELLACORN_NOT_OFFERED, 1, 0);
+    same_content("room, full", c);
 }
 
 /* ---- What a call came to: numbers that a narrower field or another place would not give */
@@ -800,6 +825,7 @@ static void try_done(uint8_t c)
     listening(c);
     begin();
     expected.box.halves[c] = (wellacorn_half){.got = sizeof oversize - 1, .len = 0xFFFF, .sum = 0};
+    ends(c, 0);
     wellacorn_done d = wellacorn_box_bytes(&found.box, c, oversize, sizeof oversize - 1, reply, sizeof reply);
     came_to("oversize, cut", d, WELLACORN_WAITING, sizeof oversize - 1, 0);
     expected.box.halves[c] = nothing_read;
@@ -808,6 +834,7 @@ static void try_done(uint8_t c)
     d = wellacorn_box_bytes(&found.box, c, oversize, sizeof oversize, reply, sizeof reply);
     came_to("oversize", d, WELLACORN_TOO_LONG, sizeof oversize, 0);
     memcpy(room_of(c), many + 5, sizeof many - 5);
+    ends(c, sizeof many - 5);
     d = wellacorn_box_bytes(&found.box, c, many, sizeof many, reply, sizeof reply);
     came_to("127 IDs", d, WELLACORN_SERVED, sizeof many, WELLACORN_LONGEST_REPLY);
 }
@@ -909,9 +936,11 @@ static void try_refusal_cut(uint8_t c, const refusal *r, size_t cut)
     begin();
     memcpy(room_of(c), r->content, cut - 5);
     expected.box.halves[c] = (wellacorn_half){.got = cut, .len = r->n, .sum = 0xFFFF};
+    ends(c, 0);
     came_to("a refusal, begun", wellacorn_box_bytes(&found.box, c, frame, cut, reply, sizeof reply), WELLACORN_WAITING, cut, 0);
     memcpy(room_of(c), r->content, r->n);
     expected.box.halves[c] = nothing_read;
+    ends(c, r->n);
     came_to_at("a refusal, ended", wellacorn_box_bytes(&found.box, c, frame + cut, 5 + r->n - cut, reply, sizeof reply), r->answer,
                5 + r->n - cut, r->place, 0);
 }
@@ -945,7 +974,7 @@ static void try_long_places(uint8_t c)
     send_at("a long request", c, content, sizeof content, WELLACORN_LEFT_OVER, 7);
 }
 
-/* A call that is refused, and one that is given nothing, change nothing. */
+/* A call that is refused, and one that is given nothing, change nothing; but one of bytes, an opening or a closing has ended no message. */
 static void try_unchanged(void)
 {
     const uint8_t piece[] = {0x06, 0x06};
@@ -957,7 +986,9 @@ static void try_unchanged(void)
     came_to("level 1 2", wellacorn_box_level(&found.box, 1, 2), WELLACORN_OUT_OF_RANGE, 0, 0);
     came_to("pass 0", wellacorn_box_pass(&found.box, 0), WELLACORN_SERVED, 0, 0);
     came_to("connect 4 0 1", wellacorn_box_connect(&found.box, 4, 0, 1), WELLACORN_NO_CONNECTION, 0, 0);
+    ends(0, 0);
     came_to("connect 0 2 0", wellacorn_box_connect(&found.box, 0, 2, 0), WELLACORN_ALREADY_OPEN, 0, 0);
+    ends(1, 0);
     came_to("connect 1 3 1", wellacorn_box_connect(&found.box, 1, 3, 1), WELLACORN_BAD_RANK, 0, 0);
     came_to("close 1", wellacorn_box_close(&found.box, 1), WELLACORN_NO_CONNECTION, 0, 0);
     came_to("close 255", wellacorn_box_close(&found.box, 255), WELLACORN_NO_CONNECTION, 0, 0);
@@ -967,6 +998,42 @@ static void try_unchanged(void)
     came_to("short buffer", wellacorn_box_bytes(&found.box, 0, piece, 2, reply, WELLACORN_REPLY - 1), WELLACORN_SHORT_BUFFER, 0, 0);
     came_to("empty piece", wellacorn_box_bytes(&found.box, 0, piece, 0, reply, sizeof reply), WELLACORN_WAITING, 0, 0);
     came_to("keep-alive", wellacorn_box_bytes(&found.box, 0, piece, 2, reply, sizeof reply), WELLACORN_KEEP_ALIVE, 1, 0);
+}
+
+/* Bytes that end no content of connection c, behind a message that ended one: an empty message, single bytes, half a message, a refused call. */
+static void try_no_content(uint8_t c)
+{
+    static const struct {
+        uint8_t piece[6], n;
+        size_t reply_len;
+        uint8_t answer;
+    } calls[] = {
+        {{0x01, 0, 0, 0, 0}, 5, WELLACORN_REPLY, WELLACORN_NOT_OFFERED},    {{0x01, 0, 0, 0, 1}, 5, WELLACORN_REPLY, WELLACORN_BAD_CHECKSUM},
+        {{0x06}, 1, WELLACORN_REPLY, WELLACORN_KEEP_ALIVE},                 {{0x07}, 1, WELLACORN_REPLY, WELLACORN_STRAY},
+        {{0x01, 0, 3, 0xFF, 0xFF, 5}, 6, 0, WELLACORN_SHORT_BUFFER},        {{0x01}, 0, WELLACORN_REPLY, WELLACORN_WAITING},
+    };
+    scribble();
+    listening(c);
+    begin();
+    for (size_t i = 0; i < COUNT(calls); i++) {
+        send_at("a content", c, (const uint8_t[]){99, 1, 2}, 3, WELLACORN_NOT_OFFERED, 0);
+        ends(c, 0);
+        came_to("no content", wellacorn_box_bytes(&found.box, c, calls[i].piece, calls[i].n, reply, calls[i].reply_len), calls[i].answer,
+                calls[i].answer == WELLACORN_SHORT_BUFFER ? 0 : calls[i].n, 0);
+        same_content("no content", c);
+    }
+}
+
+/* A connection that there is not has no content, and a call on it writes to nobody's. */
+static void try_content_of_none(uint8_t c)
+{
+    const uint8_t frame[] = {0x01, 0, 3, 0xFF, 0xFF, 5, 0, 4};
+    scribble();
+    begin();
+    came_to("no such connection", wellacorn_box_bytes(&found.box, c, frame, sizeof frame, reply, sizeof reply), WELLACORN_NO_CONNECTION, 0, 0);
+    came_to("no such opening", wellacorn_box_connect(&found.box, c, 1, 0), WELLACORN_NO_CONNECTION, 0, 0);
+    came_to("no such closing", wellacorn_box_close(&found.box, c), WELLACORN_NO_CONNECTION, 0, 0);
+    same_content("no such connection", c);
 }
 
 /* A row that is too short, down to none: nothing is changed and nothing taken. */
@@ -1017,6 +1084,10 @@ int main(void)
         try_done(c);
         try_refusals(c);
         try_long_places(c);
+        try_no_content(c);
+    }
+    for (unsigned c = WELLACORN_CONNECTIONS; c <= UINT8_MAX; c++) {
+        try_content_of_none((uint8_t)c);
     }
     for (unsigned first = 0; first < WELLACORN_PULSES; first++) {
         try_pulses(first);

@@ -572,14 +572,13 @@ static size_t read_more(size_t held)
     }
 }
 
-int main(void)
+/* Reads to the end of the input, and answers each line. */
+static void answer_all(void)
 {
     const word too_long = {"", 0};
     size_t held = 0;            /* bytes in the buffer: the beginning of a line */
     bool dropped = false;       /* an earlier part of this line was dropped */
 
-    memset(shared, FILL, sizeof shared);    /* it need not be cleared */
-    engine_power_up(&box, &all_zero);
     for (size_t n; (n = read_more(held)) > 0;) {
         size_t from = 0, scan = held;
         held += n;
@@ -600,5 +599,15 @@ int main(void)
         answer(dropped ? too_long : (word){in, held});
     }
     flush_out();
+}
+
+int main(int argc, char **argv)
+{
+    if (argc == 2 && strcmp(argv[1], "--version") == 0) {
+        return puts("replay " WELLACORN_VERSION) < 0 ? EXIT_FAILURE : EXIT_SUCCESS;
+    }
+    memset(shared, FILL, sizeof shared);    /* it need not be cleared */
+    engine_power_up(&box, &all_zero);
+    answer_all();
     return EXIT_SUCCESS;
 }

@@ -4,12 +4,41 @@
  * own and calls nothing back: all that the box holds is in what the host lends, and a call changes it in place. Arguments are numbers and pointers,
  * and a struct goes by value only where it has more than 16 bytes; lengths have 64 bits on every machine.
  *
+ * A host lends a box, which need not be cleared, powers it up, and opens a connection where a client comes. Then, whenever bytes have come on a
+ * connection or something else was told, it serves and collects. These lines may be copied; send_whole is the host's own, and sends n bytes of a
+ * buffer on connection c or copies them into a queue, all of them, and nothing where n is 0:
+ *
  *     static wellacorn_box box;
  *     static uint8_t reply[WELLACORN_REPLY];
- *     wellacorn_box_power_up(&box, settings);
- *     wellacorn_box_connect(&box, 0, 2, 1);    // connection 0, at rank 2, strict
- *     wellacorn_done done = wellacorn_box_bytes(&box, 0, piece, piece_len, reply, sizeof reply);
- *     // send done.len bytes of reply; offer the bytes from piece + done.taken on again, before any later ones
+ *
+ *     // All bytes that came on connection c: offered again until all are taken, and each reply sent before the next call gets its buffer.
+ *     // False where the host has mixed up its connections: then the rest was not taken.
+ *     static bool serve(uint8_t c, const uint8_t *bytes, uint64_t n)
+ *     {
+ *         uint64_t taken = 0;
+ *         while (taken < n) {
+ *             wellacorn_done done = wellacorn_box_bytes(&box, c, bytes + taken, n - taken, reply, sizeof reply);
+ *             if (done.taken == 0) {
+ *                 return false;
+ *             }
+ *             taken += done.taken;
+ *             send_whole(c, reply, done.len);
+ *         }
+ *         return true;
+ *     }
+ *
+ *     // What has become due, on every connection: what one client did, the others are told. Of a shut connection, and where nothing is due,
+ *     // the length is 0.
+ *     static void collect(void)
+ *     {
+ *         for (uint8_t c = 0; c < WELLACORN_CONNECTIONS; c++) {
+ *             wellacorn_done done = wellacorn_box_collect(&box, c, reply, sizeof reply);
+ *             send_whole(c, reply, done.len);
+ *         }
+ *     }
+ *
+ * Before either, wellacorn_box_pass is told the ms since it was told last. A host whose send_whole has no room for WELLACORN_REPLY bytes makes no call
+ * on that connection: it keeps the bytes that were not taken, and offers them first when there is room again.
  *
  * What the host owes:
  *   - The same box (board, halves, rooms and the row of pulses) goes into every call, one call at a time, and nobody else alters it between
@@ -26,8 +55,16 @@
 #include <stdbool.h>
 #include <stddef.h>
 #include <stdint.h>
+#include <string.h>
 
 #define WELLACORN_VERSION "1.0.0"   /* of the library and of the programs around it: the one place where it stands */
+
+/* A call whose answer a host must look at, or it loses bytes, replies or what it told: compilers that can warn where it does not. */
+#if defined(__GNUC__)
+#define WELLACORN_MUST_USE __attribute__((warn_unused_result))
+#else
+#define WELLACORN_MUST_USE
+#endif
 
 #ifdef __cplusplus
 extern "C" {
@@ -42,6 +79,7 @@ enum {
     WELLACORN_CONNECTIONS = 4,      /* connections 0 to 3 */
     WELLACORN_ROWS = 32,            /* rows of the board, of eight words each: inputs, relays, the clock, connections, the queue, places */
     WELLACORN_PULSES = 31,          /* pulses that stand in the queue at most, the running one included: records of the row that is lent */
+    WELLACORN_HEADER = 5,           /* the bytes of a frame before its content: start byte, length and checksum */
     WELLACORN_CONTENT = 1024,       /* the longest content that is judged: a longer message is swallowed */
     WELLACORN_ROOMS = 4096,         /* the rooms: 1,024 content bytes for each connection */
     WELLACORN_REPLY = 4096,         /* the reply buffer must hold so many bytes */
@@ -195,6 +233,7 @@ void wellacorn_power_up(wellacorn_board *board, wellacorn_settings s);
  *
  * A real change, whichever call makes it, is due to every open connection that has a rank above 0 and Monitor on: one of a level or of relays 1 to 8
  * makes Monitor due, and one of a level or of any relay makes External Monitor due while a module is there. */
+WELLACORN_MUST_USE
 wellacorn_done wellacorn_level(wellacorn_board *board, uint8_t k, uint8_t v);
 
 /* d ms have passed, for the clock and for the usages of inputs that are on and of those of relays 1 to 8 that are closed. In each ms they grow first;
@@ -202,25 +241,30 @@ wellacorn_done wellacorn_level(wellacorn_board *board, uint8_t k, uint8_t v);
  * is read only. Answers SERVED, or SHORT_BUFFER for a row under WELLACORN_PULSES records.
  *
  * A relay that a pulse has closed is closed until this call says that its time is over: `queue.left` of the board says when that is. */
+WELLACORN_MUST_USE
 wellacorn_done wellacorn_pass(wellacorn_board *board, const wellacorn_pulse *row, uint64_t records, uint32_t d);
 
 /* A relay module stands at a place from now on: at place 1 with relays 9 to 12, at place 2 with relays 13 to 16, all of them open. Nothing becomes
  * due by it, and of the row only the length counts. A place that is filled already stays as it is. Answers SERVED, SHORT_BUFFER for a row under
  * WELLACORN_PULSES records, or OUT_OF_RANGE for another place. */
+WELLACORN_MUST_USE
 wellacorn_done wellacorn_fill(wellacorn_board *board, const wellacorn_pulse *row, uint64_t records, uint8_t place);
 
 /* The module at a place is gone. Its relays read open, which is a change if one of them was closed; it makes External Monitor due only where the other
  * module is still there. Without any module External Monitor is due to nobody. The pulses that stand, the running one too, lose these relays from
  * their masks, and keep their places, their times and their other relays; nothing else of the row is written to. A place that is empty already stays
  * as it is, and so does the row. Answers as wellacorn_fill. */
+WELLACORN_MUST_USE
 wellacorn_done wellacorn_empty(wellacorn_board *board, wellacorn_pulse *row, uint64_t records, uint8_t place);
 
 /* Opens connection c at a rank: at a message start, with Monitor on, and due at rank 1 or 2; so is External Monitor if a module is there. `strict` is
  * 0 for a connection on which a sent checksum of 0xFFFF passes unchecked, as the protocol has it; with any other value none does, and the connection
  * stays so until it is closed: that is for a link that garbles bytes, such as radio. Answers SERVED, or NO_CONNECTION, ALREADY_OPEN or BAD_RANK. */
+WELLACORN_MUST_USE
 wellacorn_done wellacorn_connect(wellacorn_board *board, wellacorn_half halves[WELLACORN_CONNECTIONS], uint8_t c, uint8_t rank, uint8_t strict);
 
-/* Closes connection c: half a message is forgotten, and everything of it is zero. Answers SERVED, or NO_CONNECTION. */
+/* Closes connection c: half a message is forgotten, and everything of it is zero. Answers SERVED, or NO_CONNECTION. After either the connection is
+ * shut, so a host may leave the answer. */
 wellacorn_done wellacorn_close(wellacorn_board *board, wellacorn_half halves[WELLACORN_CONNECTIONS], uint8_t c);
 
 /* Bytes of connection c. Up to the end of a message they are taken, or all of them where none ends: `taken` says how many. A message that
@@ -236,6 +280,7 @@ wellacorn_done wellacorn_close(wellacorn_board *board, wellacorn_half halves[WEL
  *   reply      reply_len bytes, at least WELLACORN_REPLY or the answer is SHORT_BUFFER. Not null, not even for a length of 0.
  *
  * Answers every number but ALREADY_OPEN and BAD_RANK. */
+WELLACORN_MUST_USE
 wellacorn_done wellacorn_bytes(wellacorn_board *board, wellacorn_half halves[WELLACORN_CONNECTIONS], uint8_t rooms[WELLACORN_ROOMS],
                                wellacorn_pulse *row, uint64_t records, uint8_t c, const uint8_t *piece, uint64_t piece_len, uint8_t *reply,
                                uint64_t reply_len);
@@ -243,6 +288,7 @@ wellacorn_done wellacorn_bytes(wellacorn_board *board, wellacorn_half halves[WEL
 /* Collects on connection c what is due, of the state now: a Monitor message, an External Monitor message, or the first and behind it the second, each
  * a whole frame, `len` bytes in all. Neither is due any longer then: SERVED. If nothing is due: WAITING. However much has changed since the last ones,
  * it is one of each. The reply buffer is as in wellacorn_bytes. Answers also NO_CONNECTION or SHORT_BUFFER. */
+WELLACORN_MUST_USE
 wellacorn_done wellacorn_collect(wellacorn_board *board, uint8_t c, uint8_t *reply, uint64_t reply_len);
 
 /* ---- The box in one piece: all that is lent, and the same calls on it. What a later version lends besides is added here, and a host that
@@ -252,62 +298,151 @@ typedef struct {
     wellacorn_board board;
     wellacorn_half halves[WELLACORN_CONNECTIONS];
     uint8_t rooms[WELLACORN_ROOMS];
+    uint64_t ended[WELLACORN_CONNECTIONS];      /* what wellacorn_box_content gives; kept by the functions below alone, and not lent */
     wellacorn_pulse row[WELLACORN_PULSES];
 } wellacorn_box;
 
 static inline void wellacorn_box_power_up(wellacorn_box *box, wellacorn_settings s)
 {
     wellacorn_power_up(&box->board, s);
+    memset(box->ended, 0, sizeof box->ended);
 }
 
+WELLACORN_MUST_USE
 static inline wellacorn_done wellacorn_box_level(wellacorn_box *box, uint8_t k, uint8_t v)
 {
     return wellacorn_level(&box->board, k, v);
 }
 
+/* The row is lent whole, so the answer is always SERVED and need not be looked at. */
 static inline wellacorn_done wellacorn_box_pass(wellacorn_box *box, uint32_t d)
 {
     return wellacorn_pass(&box->board, box->row, WELLACORN_PULSES, d);
 }
 
+WELLACORN_MUST_USE
 static inline wellacorn_done wellacorn_box_fill(wellacorn_box *box, uint8_t place)
 {
     return wellacorn_fill(&box->board, box->row, WELLACORN_PULSES, place);
 }
 
+WELLACORN_MUST_USE
 static inline wellacorn_done wellacorn_box_empty(wellacorn_box *box, uint8_t place)
 {
     return wellacorn_empty(&box->board, box->row, WELLACORN_PULSES, place);
 }
 
+/* Keeps how long the content is that the call on connection c has ended. */
+static inline void wellacorn_box_keep_ended(wellacorn_box *box, uint8_t c, uint64_t n)
+{
+    if (c < WELLACORN_CONNECTIONS) {
+        box->ended[c] = n;
+    }
+}
+
+WELLACORN_MUST_USE
 static inline wellacorn_done wellacorn_box_connect(wellacorn_box *box, uint8_t c, uint8_t rank, uint8_t strict)
 {
+    wellacorn_box_keep_ended(box, c, 0);
     return wellacorn_connect(&box->board, box->halves, c, rank, strict);
 }
 
 static inline wellacorn_done wellacorn_box_close(wellacorn_box *box, uint8_t c)
 {
+    wellacorn_box_keep_ended(box, c, 0);
     return wellacorn_close(&box->board, box->halves, c);
 }
 
+/* Whether a call of bytes with this answer has ended a message whose content was kept. */
+static inline bool wellacorn_ends_content(uint8_t answer)
+{
+    return answer == WELLACORN_SERVED || answer >= WELLACORN_BAD_CHECKSUM;
+}
+
+/* Of a message that has ended the header and N content bytes were taken: some before this call, which the half says, and the rest in it. */
+WELLACORN_MUST_USE
 static inline wellacorn_done wellacorn_box_bytes(wellacorn_box *box, uint8_t c, const uint8_t *piece, uint64_t piece_len, uint8_t *reply,
                                                  uint64_t reply_len)
 {
-    return wellacorn_bytes(&box->board, box->halves, box->rooms, box->row, WELLACORN_PULSES, c, piece, piece_len, reply, reply_len);
+    const uint64_t got = c < WELLACORN_CONNECTIONS ? box->halves[c].got : 0;
+    const wellacorn_done done =
+        wellacorn_bytes(&box->board, box->halves, box->rooms, box->row, WELLACORN_PULSES, c, piece, piece_len, reply, reply_len);
+    wellacorn_box_keep_ended(box, c, wellacorn_ends_content(done.answer) ? got + done.taken - WELLACORN_HEADER : 0);
+    return done;
 }
 
+WELLACORN_MUST_USE
 static inline wellacorn_done wellacorn_box_collect(wellacorn_box *box, uint8_t c, uint8_t *reply, uint64_t reply_len)
 {
     return wellacorn_collect(&box->board, c, reply, reply_len);
 }
 
+/* The content of the message that the last wellacorn_box_bytes on connection c has ended, served or refused: how many bytes it has, and in `content`
+ * where they stand, until the next call of bytes on that connection. So a host reads what the box does not serve and it serves itself, as a login
+ * (NOT_OFFERED). 0 where that call ended no message, or a single byte, a message without content, or one that was TOO_LONG to be kept; where it was
+ * refused itself (NO_CONNECTION, SHORT_BUFFER); and from an opening, a closing and a power-up on. With BAD_CHECKSUM they are the bytes that came,
+ * which may be garbled. There is no connection above 3: of any such c it is 0. `content` is never null. */
+static inline uint64_t wellacorn_box_content(const wellacorn_box *box, uint8_t c, const uint8_t **content)
+{
+    const bool is_one = c < WELLACORN_CONNECTIONS;
+    *content = is_one ? box->rooms + (size_t)WELLACORN_CONTENT * c : box->rooms;
+    return is_one ? box->ended[c] : 0;
+}
+
+/* ---- Frames, for what the host itself has to say. The box reckons its own. */
+
+/* The checksum of one byte more: 001's CRC-16, the byte into the low end and eight steps to the right. Of no bytes it is 0. */
+static inline uint16_t wellacorn_checksum_next(uint16_t sum, uint8_t byte)
+{
+    unsigned next = (unsigned)sum ^ byte;
+    for (int step = 0; step < 8; step++) {
+        next = (next & 1u) != 0 ? next >> 1 ^ 0xA001u : next >> 1;
+    }
+    return (uint16_t)next;
+}
+
+/* The checksum of a content. */
+static inline uint16_t wellacorn_checksum(const uint8_t *content, uint64_t n)
+{
+    uint16_t sum = 0;
+    for (uint64_t i = 0; i < n; i++) {
+        sum = wellacorn_checksum_next(sum, content[i]);
+    }
+    return sum;
+}
+
+/* Makes the frame of a content: its header and behind it the content, which may stand there already or elsewhere in the frame. Gives the frame's
+ * length, WELLACORN_HEADER + n, for which there must be room. A content of more than 65,535 bytes has no frame: then it gives 0 and writes nothing. */
+static inline uint64_t wellacorn_frame(uint8_t *frame, const uint8_t *content, uint64_t n)
+{
+    uint16_t sum;
+    if (n > UINT16_MAX) {
+        return 0;
+    }
+    sum = wellacorn_checksum(content, n);
+    memmove(frame + WELLACORN_HEADER, content, (size_t)n);
+    frame[0] = 0x01;
+    frame[1] = (uint8_t)(n >> 8);
+    frame[2] = (uint8_t)n;
+    frame[3] = (uint8_t)(sum >> 8);
+    frame[4] = (uint8_t)sum;
+    return WELLACORN_HEADER + n;
+}
+
 /* ---- The layout that the archive has, held to what this compiler makes of the structs. host/layout.c holds the archive to it. */
 
-#define WELLACORN_ROW 64    /* bytes */
-#define WELLACORN_SIZE(type, size) static_assert(sizeof(type) == (size), #type " is not of " #size " bytes")
-#define WELLACORN_PLACE(type, field, place) static_assert(offsetof(type, field) == (place), #type "." #field " is not at " #place)
+/* C before C11 has no static_assert: an array of -1 elements is refused as well, and its name says what does not hold. */
+#if defined(__cplusplus) || (defined(__STDC_VERSION__) && __STDC_VERSION__ >= 201112L)
+#define WELLACORN_HOLDS(name, condition) static_assert(condition, #name)
+#else
+#define WELLACORN_HOLDS(name, condition) typedef char name[(condition) ? 1 : -1]
+#endif
 
-static_assert(sizeof(bool) == 1, "a bool is one byte");
+#define WELLACORN_ROW 64    /* bytes */
+#define WELLACORN_SIZE(type, size) WELLACORN_HOLDS(type##_has_its_size, sizeof(type) == (size))
+#define WELLACORN_PLACE(type, field, place) WELLACORN_HOLDS(type##_has_##field##_at_its_place, offsetof(type, field) == (place))
+
+WELLACORN_HOLDS(wellacorn_bool_is_one_byte, sizeof(bool) == 1);
 
 WELLACORN_SIZE(wellacorn_input, WELLACORN_ROW);
 WELLACORN_PLACE(wellacorn_input, level, 0);
@@ -383,6 +518,8 @@ WELLACORN_PLACE(wellacorn_done, answer, 24);
 #undef WELLACORN_ROW
 #undef WELLACORN_SIZE
 #undef WELLACORN_PLACE
+#undef WELLACORN_HOLDS
+#undef WELLACORN_MUST_USE
 
 #ifdef __cplusplus
 }
