@@ -11,13 +11,14 @@
  *     static wellacorn_box box;
  *     static uint8_t reply[WELLACORN_REPLY];
  *
- *     // All bytes that came on connection c: offered again until all are taken, and each reply sent before the next call gets its buffer.
- *     // False where the host has mixed up its connections: then the rest was not taken.
+ *     // All bytes that came on connection c: offered until all are taken, each reply sent
+ *     // before the next call gets its buffer. False where the connection is shut.
  *     static bool serve(uint8_t c, const uint8_t *bytes, uint64_t n)
  *     {
  *         uint64_t taken = 0;
  *         while (taken < n) {
- *             wellacorn_done done = wellacorn_box_bytes(&box, c, bytes + taken, n - taken, reply, sizeof reply);
+ *             wellacorn_done done =
+ *                 wellacorn_box_bytes(&box, c, bytes + taken, n - taken, reply, sizeof reply);
  *             if (done.taken == 0) {
  *                 return false;
  *             }
@@ -27,8 +28,8 @@
  *         return true;
  *     }
  *
- *     // What has become due, on every connection: what one client did, the others are told. Of a shut connection, and where nothing is due,
- *     // the length is 0.
+ *     // What has become due, on every connection: what one client did, the others are told.
+ *     // Where a connection is shut or has nothing due, the length is 0.
  *     static void collect(void)
  *     {
  *         for (uint8_t c = 0; c < WELLACORN_CONNECTIONS; c++) {
