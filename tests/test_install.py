@@ -280,7 +280,7 @@ class Service(unittest.TestCase):
     def test_arguments(self):
         """The arguments of the service and of the examples are boxd's.  Without more it keeps its counts, and only this machine reaches it."""
         lines = re.findall(r'BOXD_ARGUMENTS=(.*)"', self.unit) + re.findall(r'^#BOXD_ARGUMENTS="(.*)"', (self.examples / "boxd.conf").read_text(), re.M)
-        self.assertEqual(4, len(lines))
+        self.assertEqual(5, len(lines))
         self.assertEqual(["--listen", "127.0.0.1:9200", "--counts", "%S/wellacorn/counts"], lines[0].split())
         self.assertEqual(lines[0].replace("%S", "/var/lib"), lines[1])
         known = {entry.split()[0] for entry in options_of_help()}
