@@ -60,7 +60,7 @@
 
 #define WELLACORN_VERSION "1.0.0"   /* of the library and of the programs around it: the one place where it stands */
 
-/* A call whose answer a host must look at, or it loses bytes, replies or what it told: compilers that can warn where it does not. */
+/* A call whose answer a host must look at, or it loses bytes, replies or what it told. Compilers that know the word warn where it does not. */
 #if defined(__GNUC__)
 #define WELLACORN_MUST_USE __attribute__((warn_unused_result))
 #else
