@@ -410,9 +410,14 @@ class Inputs(Case):
             host.quit()
 
     def test_command_ends_with_the_box(self):
-        """With its own children, and though it does not look at its input."""
+        """It is asked to, and may clean up; where it does not look at its input and ignores the signal it is ended by force, with its children."""
+        mark = self.file("asked")
+        with Boxd("--io", f"trap 'echo asked > {mark}; exit' TERM; echo level 1 1; cat; while :; do sleep 0.1; done") as host:
+            host.wait_for("input 1 is on")
+            host.quit()
+        self.assertEqual(read(mark), "asked\n")
         mark = self.file("pids")
-        with Boxd("--io", f"sleep 1000 & echo $$ $! > {mark}; trap '' TERM; wait") as host:
+        with Boxd("--io", f"trap '' TERM; sleep 1000 & echo $$ $! > {mark}; wait") as host:
             wait_until("it runs", lambda: read(mark).count(" ") == 1 and read(mark).endswith("\n"))
             host.quit()
         for pid in read(mark).split():
@@ -583,10 +588,23 @@ class Counts(Case):
             self.assertEqual(host.count("cannot be saved"), 1)
             host.quit()
 
+    def saver(self, host):
+        return int(read(f"/proc/{host.process.pid}/task/{host.process.pid}/children").split()[0])
+
+    def test_ended_as_a_service(self):
+        """A service is ended by a signal to all of its processes: what was counted last is saved all the same."""
+        with Boxd("--counts", self.path) as host:
+            self.rise(host, *[4] * 7)
+            host.wait_for("input 4 is on: 7 counted")
+            os.kill(self.saver(host), signal.SIGTERM)
+            host.process.terminate()
+            self.assertEqual(host.ended(), 0)
+            self.assertEqual(self.saved()[3], 7)
+            self.assertFalse(host.find("cannot be saved|could not be saved"))
+
     def test_saver_that_was_killed(self):
         with Boxd("--counts", self.path) as host:
-            children = f"/proc/{host.process.pid}/task/{host.process.pid}/children"
-            os.kill(int(read(children).split()[0]), signal.SIGKILL)
+            os.kill(self.saver(host), signal.SIGKILL)
             host.wait_for("the counts cannot be saved")
             self.rise(host, 7)
             wait_until("another saver has saved it", lambda: self.saved()[6] == 1)
