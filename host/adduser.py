@@ -15,7 +15,7 @@ import re
 import secrets
 import sys
 
-ITERATIONS = 600000             # about half a second of work for each try
+ITERATIONS = 600000             # about a tenth of a second of work for each try on a desktop machine, more on a small board
 
 
 def fail(words):

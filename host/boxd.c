@@ -100,6 +100,38 @@ static void tell_time(host *h)
     told_time(&h->box, &it);
 }
 
+/* ---- Passwords in the rooms */
+
+/* Offers the library a message of n zero bytes, on a connection at the start of a message: it writes over the first n bytes of the connection's room,
+ * which nobody but the library writes to. There is no type 0, so it is refused, and what is refused changes nothing. */
+static void wipe_room(host *h, uint8_t c, size_t n)
+{
+    static const uint8_t zeros[WELLACORN_CONTENT];
+    uint8_t frame[5 + WELLACORN_CONTENT];
+    box_bytes(&h->box, c, frame, frame_of(frame, zeros, n));
+}
+
+/* A message has ended: where it was a login, a garbled one too, its password is wiped. Without users there is none to hide. */
+static void wipe_password(host *h, uint8_t c, const came *it)
+{
+    const uint8_t *content;
+    bool is_whole = it->done.answer == WELLACORN_NOT_OFFERED || it->done.answer == WELLACORN_BAD_CHECKSUM;
+    size_t n = is_whole && h->door.users != NULL ? box_content(&h->box, c, it, &content) : 0;
+    if (n > 0 && content[0] == LOGIN_TYPE) {
+        wipe_room(h, c, n);
+    }
+}
+
+/* A connection was closed: half a login may stand in its room, or one whose type was garbled. The library takes bytes on an open one alone. */
+static void wipe_closed(host *h, uint8_t c)
+{
+    if (h->door.users != NULL) {
+        box_connect(&h->box, c, 0, false);
+        wipe_room(h, c, WELLACORN_CONTENT);
+        box_close(&h->box, c);
+    }
+}
+
 /* ---- Connections */
 
 /* Whether a user's connection is strict, or, with NULL, one that nobody has logged in on. */
@@ -129,6 +161,7 @@ static int leave_line(host *h, uint8_t c, const char *why)
     say_as(SAY_CONNECTION + c);
     told_rest(&h->heard[c], c);
     box_close(&h->box, c);
+    wipe_closed(h, c);
     login_fresh(&h->logins[c]);
     say_as(SAY_DOOR);
     say_left_out(c);
@@ -260,6 +293,7 @@ static void serve(host *h, uint8_t c)
             told_bytes(&h->heard[c], &h->box, c, &it);
             custom_heard(&h->last_refused, &h->box, c, &it, h->now);
         }
+        wipe_password(h, c, &it);
     }
     if (line_untaken(l, &piece) == 0) {
         told_rest(&h->heard[c], c);

@@ -1,12 +1,11 @@
 /* Works out hashes for tests/test_host.py, which compares them with Python's. Reads lines from standard input, prints one line for each.
  *
- *     sha256 HEX                          the digest, in lower case
- *     hmac HEX-KEY HEX                    the digest
- *     pbkdf2 HEX-PASSWORD HEX-SALT N      the digest after N iterations, done a few at a time
+ *     pbkdf2 HEX-PASSWORD HEX-SALT N      the hash after N iterations, done a few at a time; in lower case
+ *     same HEX HEX                        1 where two hashes are the same, else 0
  *
  * `-` stands for no bytes. Any other line: `?`.
  */
-#include "sha256.h"
+#include "passwords.h"
 
 #include <stdio.h>
 #include <stdlib.h>
@@ -55,32 +54,34 @@ static size_t split(char *line, char *words[WORDS])
     return n;
 }
 
-static bool work_out(char *words[WORDS], size_t n, uint8_t digest[SHA256_DIGEST])
+static bool print_hash(const octets *password, const octets *salt, const char *iterations)
+{
+    hashing h;
+    hashing_begin(&h, password->bytes, password->n, salt->bytes, salt->n, (uint32_t)strtoul(iterations, NULL, 10));
+    while (!hashing_turn(&h, 7)) {
+    }
+    for (int i = 0; i < PASSWORD_HASH; i++) {
+        printf("%02x", h.sum[i]);
+    }
+    return putchar('\n') != EOF;
+}
+
+static bool print_same(const octets *one, const octets *other)
+{
+    return one->n == PASSWORD_HASH && other->n == PASSWORD_HASH && puts(same_hash(one->bytes, other->bytes) ? "1" : "0") != EOF;
+}
+
+/* Whether the line was one that there is. */
+static bool work_out(char *words[WORDS], size_t n)
 {
     static octets one, two;
-    if (n < 2 || !read_hex(words[1], &one) || (n > 2 && !read_hex(words[2], &two))) {
+    if (n < 3 || !read_hex(words[1], &one) || !read_hex(words[2], &two)) {
         return false;
     }
-    if (n == 2 && strcmp(words[0], "sha256") == 0) {
-        sha256 s;
-        sha256_begin(&s);
-        sha256_add(&s, one.bytes, one.n / 3);       /* in two parts, so that a block is also filled in steps */
-        sha256_add(&s, one.bytes + one.n / 3, one.n - one.n / 3);
-        sha256_end(&s, digest);
-    } else if (n == 3 && strcmp(words[0], "hmac") == 0) {
-        hmac key;
-        hmac_key(&key, one.bytes, one.n);
-        hmac_of(&key, two.bytes, two.n, digest);
-    } else if (n == 4 && strcmp(words[0], "pbkdf2") == 0) {
-        pbkdf2 p;
-        pbkdf2_begin(&p, one.bytes, one.n, two.bytes, two.n, (uint32_t)strtoul(words[3], NULL, 10));
-        while (!pbkdf2_turn(&p, 7)) {
-        }
-        memcpy(digest, p.sum, SHA256_DIGEST);
-    } else {
-        return false;
+    if (n == 4 && strcmp(words[0], "pbkdf2") == 0) {
+        return print_hash(&one, &two, words[3]);
     }
-    return true;
+    return n == 3 && strcmp(words[0], "same") == 0 && print_same(&one, &two);
 }
 
 int main(void)
@@ -88,15 +89,9 @@ int main(void)
     static char line[LINE];
     while (fgets(line, sizeof line, stdin) != NULL) {
         char *words[WORDS];
-        uint8_t digest[SHA256_DIGEST];
-        if (!work_out(words, split(line, words), digest)) {
+        if (!work_out(words, split(line, words))) {
             puts("?");
-            continue;
         }
-        for (int i = 0; i < SHA256_DIGEST; i++) {
-            printf("%02x", digest[i]);
-        }
-        putchar('\n');
     }
     return EXIT_SUCCESS;
 }

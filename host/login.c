@@ -1,6 +1,7 @@
 /* The login: layout, trial, slowing down. */
 #include "login.h"
 
+#include <nettle/base64.h>
 #include <string.h>
 
 enum {
@@ -46,37 +47,15 @@ static bool read_layout(string content, string *name, string *password)
 
 /* ---- The encoded form: a blank name, and `name:password` in Base64 for the password */
 
-static int six_bits(uint8_t ch)
+/* Gives the number of bytes, or 0 where it is not Base64 with its padding. nettle passes over blanks within; one of them would leave fewer bytes
+ * than so many characters make, and is refused here. */
+static size_t decode(string from, uint8_t to[BASE64_DECODE_LENGTH(LOGIN_STRING)])
 {
-    static const char digits[] = "ABCDEFGHIJKLMNOPQRSTUVWXYZabcdefghijklmnopqrstuvwxyz0123456789+/";
-    const char *at = ch == 0 ? NULL : strchr(digits, ch);
-    return at == NULL ? -1 : (int)(at - digits);
-}
-
-/* Gives the number of bytes, or 0 where it is not Base64 with its padding. `to` has room for three bytes of every four. */
-static size_t decode(string from, uint8_t *to)
-{
-    size_t n = 0, padding = 0;
-    if (from.n == 0 || from.n % 4 != 0) {
-        return 0;
-    }
-    while (padding < 2 && from.bytes[from.n - 1 - padding] == '=') {
-        padding++;
-    }
-    uint32_t bits = 0;
-    for (size_t i = 0; i < from.n; i++) {
-        int six = i < from.n - padding ? six_bits(from.bytes[i]) : 0;
-        if (six < 0) {
-            return 0;
-        }
-        bits = bits << 6 | (uint32_t)six;
-        if (i % 4 == 3) {
-            to[n++] = (uint8_t)(bits >> 16);
-            to[n++] = (uint8_t)(bits >> 8);
-            to[n++] = (uint8_t)bits;
-        }
-    }
-    return n - padding;
+    struct base64_decode_ctx state;
+    size_t n = 0;
+    base64_decode_init(&state);
+    bool good = from.n % 4 == 0 && base64_decode_update(&state, &n, to, from.n, (const char *)from.bytes) == 1 && base64_decode_final(&state) == 1;
+    return good && n == from.n / 4 * 3 - state.padding ? n : 0;
 }
 
 /* Name and password out of the decoded bytes. False where there is no colon between. */
@@ -139,7 +118,7 @@ static const user *costliest(const users *all)
 static void start_work(login *l, const door *d, uint64_t now)
 {
     const user *like = l->who == NULL ? costliest(d->users) : l->who;
-    pbkdf2_begin(&l->work, l->password, l->password_len, like->salt, like->salt_len, like->iterations);
+    hashing_begin(&l->work, l->password, l->password_len, like->salt, like->salt_len, like->iterations);
     wipe(l->password, sizeof l->password);
     l->begun = now;
     l->stage = LOGIN_WORKS;
@@ -148,7 +127,7 @@ static void start_work(login *l, const door *d, uint64_t now)
 static void finish_work(login *l, const door *d, uint64_t now)
 {
     const user *like = l->who == NULL ? costliest(d->users) : l->who;
-    bool same = same_digest(l->work.sum, like->hash);
+    bool same = same_hash(l->work.sum, like->hash);
     wipe(&l->work, sizeof l->work);
     if (!same || l->who == NULL) {
         was_wrong(l, now);
@@ -183,7 +162,7 @@ void login_fresh(login *l)
 
 void login_begin(login *l, door *d, uint64_t now, const uint8_t *content, size_t n)
 {
-    uint8_t decoded[LOGIN_STRING];
+    uint8_t decoded[BASE64_DECODE_LENGTH(LOGIN_STRING)];
     string name, password;
     l->who = NULL;
     l->stage = LOGIN_WRONG;
@@ -211,7 +190,7 @@ void login_turn(login *l, door *d, uint64_t now)
         }
         break;
     case LOGIN_WORKS:
-        if (pbkdf2_turn(&l->work, TURN)) {
+        if (hashing_turn(&l->work, TURN)) {
             finish_work(l, d, now);
         }
         break;

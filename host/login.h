@@ -46,7 +46,7 @@ typedef struct {
     unsigned wrong;             /* wrong passwords on this connection, one behind the other */
     uint8_t password[LOGIN_STRING];
     size_t password_len;
-    pbkdf2 work;
+    hashing work;
 } login;
 
 /* A fresh connection: none under way, none wrong. */

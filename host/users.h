@@ -9,7 +9,7 @@
 #ifndef USERS_H
 #define USERS_H
 
-#include "sha256.h"
+#include "passwords.h"
 
 enum {
     USERS = 64,                         /* users at most */
@@ -23,9 +23,9 @@ typedef struct {
     uint8_t rank;                       /* 1 user, 2 administrator */
     bool strict;
     uint32_t iterations;
-    uint8_t salt[PBKDF2_SALT];
+    uint8_t salt[PASSWORD_SALT];
     size_t salt_len;
-    uint8_t hash[SHA256_DIGEST];
+    uint8_t hash[PASSWORD_HASH];
 } user;
 
 typedef struct {

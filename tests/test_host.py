@@ -9,7 +9,6 @@ Seeds are fixed, ports are free ones, and nothing waits for a fixed time but wha
 
 import base64
 import hashlib
-import hmac
 import os
 import random
 import re
@@ -860,27 +859,28 @@ class Refused(Case):
 # ---------------------------------------------------------------------------------------------
 
 class Hashes(Case):
-    def test_against_python(self):
-        """SHA-256, HMAC and PBKDF2 in C give what Python's give, at every length around a block's edge."""
-        rng = random.Random("hashes")
-        asked, expected = [], []
-        hexed = lambda data: data.hex() or "-"                                                      # noqa: E731
-        for size in list(range(0, 200)) + [255, 256, 1000, 4096]:
-            data = rng.randbytes(size)
-            asked.append(f"sha256 {hexed(data)}")
-            expected.append(hashlib.sha256(data).hexdigest())
-            key = rng.randbytes(rng.choice((0, 1, 31, 63, 64, 65, 130)))
-            asked.append(f"hmac {hexed(key)} {hexed(data)}")
-            expected.append(hmac.new(key, data, "sha256").hexdigest())
-        for size in (0, 1, 8, 63, 64, 65, 127, 255):
-            for iterations in (1, 2, 3, 7, 8, 1000, 5003):
-                secret, salt = rng.randbytes(size), rng.randbytes(rng.choice((8, 16, 33, 64)))
-                asked.append(f"pbkdf2 {hexed(secret)} {hexed(salt)} {iterations}")
-                expected.append(hashlib.pbkdf2_hmac("sha256", secret, salt, iterations).hex())
+    def work_out(self, asked):
         program = PROGRAM.replace("boxd", "hashes")
         done = subprocess.run([os.path.join(ROOT, "host", "exec"), program], input="\n".join(asked) + "\n", text=True,
                               stdout=subprocess.PIPE, timeout=PATIENCE, check=True)
-        self.assertEqual(done.stdout.split(), expected)
+        return done.stdout.split()
+
+    def test_against_python(self):
+        """PBKDF2 in slices gives what Python's gives, with passwords at every length around a block's edge; a longer salt than there may be is cut."""
+        rng = random.Random("hashes")
+        asked, expected = [], []
+        for size in list(range(0, 140)) + [255, 256, 1000, 4096]:
+            for iterations in (1, 2, 8) if size not in (0, 1, 63, 64, 65, 255) else (1, 2, 3, 6, 7, 8, 1000, 5003):
+                secret, salt = rng.randbytes(size), rng.randbytes(rng.choice((8, 16, 33, 63, 64, 65)))
+                asked.append(f"pbkdf2 {secret.hex() or '-'} {salt.hex()} {iterations}")
+                expected.append(hashlib.pbkdf2_hmac("sha256", secret, salt[:64], iterations).hex())
+        self.assertEqual(self.work_out(asked), expected)
+
+    def test_same(self):
+        """Two hashes are the same where every bit is."""
+        one = random.Random("same").randbytes(32)
+        others = [one] + [bytes(byte ^ (1 << bit if at == place else 0) for at, byte in enumerate(one)) for place in range(32) for bit in range(8)]
+        self.assertEqual(self.work_out([f"same {one.hex()} {other.hex()}" for other in others]), ["1"] + ["0"] * 256)
 
 
 class Users(Case):
@@ -1003,7 +1003,11 @@ class Login(Case):
         encode = base64.b64encode
         wrong = (b"", b"\x04anna", b"\x04anna\x06salmo", b"\x04anna\x06salmonx", b"\xFFanna", b"\x04anna\xFFsalmon", b"\x00",
                  b"\x00\x00", string(b"") + string(b"YW5u"), string(b"") + string(b"YW5uYTpzYWxtb24"), string(b"") + string(b"anna:salmon"),
-                 string(b"") + string(b"===="), bytes(1023))
+                 string(b"") + string(b"===="), bytes(1023),
+                 *(string(b"") + string(text) for text in (
+                     b"YW5uYTpzYWxtb24=\n\n\n\n", b"YW5u YTpzYWxtb24=", b"YW5u    YTpzYWxtb24=", b"    YW5uYTpzYWxtb24=", b"YW5uYTpzYWxtb24=====",
+                     b"YW5uYTpzYWxtb24=YW5u", b"YW5uYTpzYWxtb2_=", b"YW5uYTpzYWxtb24\x00", b"YW5uYTpzYWxtb24=\x00\x00\x00\x00", b"YW5uYTpz=WxtYWxtb24=",
+                     b"YW5uYTpzYWxtb25=")))                                                         # bits left over
         with self.start() as host, Client(host.port) as client:
             for content in wrong:
                 self.assertEqual(self.answer(client, frame(b"\x7E" + content))[0], REFUSED, content)
@@ -1086,7 +1090,7 @@ class Login(Case):
 
     def test_work_delays_nobody(self):
         """While a long hash is worked out, another connection is served; a client that hangs up meanwhile is let go."""
-        users = self.users_file(adduser.line("anna", 1, b"salmon", 200000), adduser.line("olav", 2, b"Trout:7", 1000))
+        users = self.users_file(adduser.line("anna", 1, b"salmon", 700000), adduser.line("olav", 2, b"Trout:7", 1000))
         with Boxd("--users", users) as host, Client(host.port) as anna, Client(host.port) as olav:
             self.assertEqual(self.answer(olav, login(b"olav", b"Trout:7"))[0], ADMINISTRATOR)
             gone = Client(host.port)
@@ -1110,6 +1114,97 @@ class Login(Case):
         self.assertEqual(anna.next_of(125), b"\x7D\x02")
         anna.next_of(1)
         return served
+
+
+# ---------------------------------------------------------------------------------------------
+# Passwords in memory
+# ---------------------------------------------------------------------------------------------
+
+LARGE = 64 << 20                        # bytes; of boxd itself nothing is so large, of the sanitizers their notes on its memory are
+
+
+def writable(process):
+    """All that a running process can write to, and the words by which the system names these places; places that are large are left out."""
+    found, names, left_out = [], set(), 0
+    with open(f"/proc/{process.pid}/maps", encoding="ascii") as maps, open(f"/proc/{process.pid}/mem", "rb", buffering=0) as memory:
+        for place, rights, _, _, _, *name in (line.split() for line in maps):
+            begin, end = (int(number_, 16) for number_ in place.split("-"))
+            if rights[1] == "w" and end - begin <= LARGE:
+                memory.seek(begin)
+                found.append(memory.read(end - begin))
+                assert len(found[-1]) == end - begin, place
+                names.update(os.path.basename(word) for word in name)
+            left_out += rights[1] == "w" and end - begin > LARGE
+    return found, names, left_out
+
+
+def shapes(password):
+    """A password as it may lie in memory: as it is, and in the blocks that HMAC makes of it; as bytes and as words."""
+    for mask in (0x00, 0x36, 0x5C):
+        masked = bytes(byte ^ mask for byte in password)
+        yield masked
+        yield b"".join(masked[at:at + 4][::-1] for at in range(0, len(masked) // 4 * 4, 4))
+
+
+class Wiped(Case):
+    WRONG, RIGHT, ENCODED, HALF, GONE, GARBLED, LONG = (
+        b"wrong-Piece-of-Driftwood", b"right-Harpoon-over-Hull7", b"codes-Kelp-and-Plankton5", b"halfs-Otter-at-the-Quay3",
+        b"gone--Puffin-in-the-Fog9", b"noisy-Gale-on-the-Radio1", b"longs" + b"-Wave-and-Wave" * 12)
+
+    def lies_in(self, host, *secrets):
+        """Which of the secrets lie in the memory of the host."""
+        found, names, left_out = writable(host.process)
+        self.assertLessEqual({"[stack]", PROGRAM}, names)
+        self.assertEqual(left_out > 0, PROGRAM.endswith("-san"))
+        return [secret for secret in secrets if any(shape in place for shape in shapes(secret) for place in found)]
+
+    def half(self, host):
+        """A login that lacks its last byte lies in the library's room, which shows that this test finds passwords; with its connection it goes."""
+        sent = login(b"nobody", self.HALF + b".")[:-1]
+        with Client(host.port) as client:
+            client.send(sent)
+            begun = time.monotonic()
+            while not host.find(f"state: connection 0 .*, {len(sent)} bytes"):
+                self.assertLess(time.monotonic() - begun, PATIENCE)
+                before = len(host.lines)
+                host.tell("state")
+                host.wait_for("state: connection 3", before)
+            self.assertEqual(self.lies_in(host, self.HALF), [self.HALF])
+        host.wait_for("connection 0 closed: .* bytes of an unfinished message were dropped")
+        self.assertEqual(self.lies_in(host, self.HALF), [])
+
+    def gone(self, host):
+        """The client is gone while its password's hash is worked out, which takes long.  What comes with the login is refused, and told."""
+        with Client(host.port) as client:
+            client.send(CLOCK + login(b"costly", self.GONE))
+            host.wait_for("connection 0 .*" + refused(LOW_RANK))
+            client.socket.setsockopt(socket.SOL_SOCKET, socket.SO_LINGER, b"\x01\0\0\0\0\0\0\0")
+            client.close()
+        host.wait_for("connection 0 closed: (?!the client hung up)(?!.* bytes of an unfinished)")
+
+    def garbled(self, host, client):
+        """A wrong checksum: the library refuses it, and its content stands in the room."""
+        client.send(b"\x01" + login(b"nobody", self.GARBLED)[1:3] + b"\x12\x34" + login(b"nobody", self.GARBLED)[5:])
+        host.wait_for("connection . sent a message of type 126; " + refused(BAD_CHECKSUM))
+
+    def test_passwords_are_wiped(self):
+        """After a login, right, wrong, garbled, half or with its client gone, its password is nowhere in memory; the user's name is."""
+        name = b"keeper-of-the-port-lifts"
+        users = self.users_file(adduser.line(name.decode(), 1, self.RIGHT, 1000), adduser.line("anna", 1, self.ENCODED, 1000),
+                                adduser.line("olav", 2, self.LONG, 1000), f"costly 1 10000000 {'5A' * 16} {'00' * 32}")
+        with Boxd("--users", users) as host:
+            self.half(host)
+            self.gone(host)
+            with Client(host.port) as wrong, Client(host.port) as right:
+                self.garbled(host, right)
+                self.assertEqual(self.lies_in(host, self.GARBLED, self.HALF, self.GONE, name), [name])
+                wrong.send(login(b"anna", self.WRONG))
+                for message in (login(name, self.RIGHT), login(b"", base64.b64encode(b"anna:" + self.ENCODED)), login(b"olav", self.LONG)):
+                    self.assertNotEqual(right.ask(message, 125), b"\x7D\xFF")
+                self.assertEqual(wrong.next_of(125), b"\x7D\xFF")
+                encoded = base64.b64encode(b"anna:" + self.ENCODED)
+                self.assertEqual(self.lies_in(host, self.WRONG, self.RIGHT, self.ENCODED, encoded, self.LONG, self.LONG[-40:], name), [name])
+            host.quit()
 
 
 # ---------------------------------------------------------------------------------------------
