@@ -30,8 +30,10 @@ static const char help[] =
     "    --login-time SECONDS    closes a connection on which nobody has logged in for so long; 60 without it. With --users alone\n"
     "    --link-time SECONDS     closes a connection whose client acknowledges nothing for so long; 120 without it\n"
     "\n"
-    "    --settings FILE         setpoints and alarm switches: the 40 numbers of `power` in docs/REPLAY.md. Without it the count alarms\n"
-    "                            of every input stand at 20 and 50, and input 8 has its alarm switch set\n"
+    "    --settings FILE         setpoints and alarm switches, in lines such as `input 3 setpoint-one 100` (docs/HOST.md), or the 40 numbers\n"
+    "                            of `power` in docs/REPLAY.md. What the file does not name is 0 or off. Without it the count alarms of\n"
+    "                            every input stand at 20 and 50, and input 8 has its alarm switch set\n"
+    "    --check-settings FILE   prints what such a file means, or what is wrong in it, and starts nothing\n"
     "    --io COMMAND            runs COMMAND, whose lines `level K V` tell the inputs, and which is told `relay K V`\n"
     "    --io-socket PATH        the same for a program that connects to the Unix socket PATH\n"
     "    --counts FILE           keeps the counts in FILE, and goes on with them after a power failure. Without it they begin at 0\n"
@@ -129,6 +131,7 @@ static const argument flags[] = {
 /* Those with a word behind them that is kept as it is. */
 static const argument words[] = {
     {"--users", offsetof(options, users)},
+    {"--check-settings", offsetof(options, check_settings)},
     {"--io", offsetof(options, io_command)},
     {"--io-socket", offsetof(options, io_socket)},
     {"--counts", offsetof(options, counts)},
@@ -276,5 +279,11 @@ options_came options_read(options *o, int argc, char **argv)
     }
     settings_usual(&o->settings);
     read_address(o, "127.0.0.1:9200");
-    return read_arguments(o, argc, argv) && read_seed(o) && keeps_apart(o) ? OPTIONS_GOOD : OPTIONS_BAD;
+    if (!read_arguments(o, argc, argv)) {
+        return OPTIONS_BAD;
+    }
+    if (o->check_settings != NULL) {
+        return settings_check(o->check_settings) ? OPTIONS_DONE : OPTIONS_BAD;
+    }
+    return read_seed(o) && keeps_apart(o) ? OPTIONS_GOOD : OPTIONS_BAD;
 }

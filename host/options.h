@@ -14,6 +14,7 @@ typedef struct {
     bool open;                          /* others than this machine may come without a login: it is meant */
     bool strict;                        /* every connection is strict, whoever's it is */
     wellacorn_settings settings;        /* set at power-up */
+    const char *check_settings;         /* a settings file to be looked at, nothing else; NULL: none */
     const char *io_command;             /* tells the levels and is told the relays; NULL: none */
     const char *io_socket;              /* where such a program connects; NULL: nowhere */
     const char *counts;                 /* where the counts are kept over a power failure; NULL: nowhere */

@@ -1313,6 +1313,124 @@ class Strict(Case):
 
 
 # ---------------------------------------------------------------------------------------------
+# Settings
+# ---------------------------------------------------------------------------------------------
+
+class Settings(Case):
+    # The 40 numbers of the lines below.
+    LINES = """# setpoints of the port lifts
+
+        input 3 setpoint-one 100    # a remark
+        input 3 setpoint-two 4294967295
+        input\t3\tusage-setpoint  3600000\r
+        input 3 alarm on# another
+        relay 5 usage-setpoint 18446744073709551615
+        relay 6 usage-setpoint 1500ms
+        input 8 usage-setpoint 90 s
+        relay 1 usage-setpoint 15min
+        input 1 usage-setpoint 5124095576030 h
+        input 2 alarm off
+        input 2 setpoint-one 0"""
+    NUMBERS = [0, 0, 5124095576030 * 3600000, 0, 0, 0, 0, 0, 100, 4294967295, 3600000, 1] + [0] * 16 + [0, 0, 90000, 0] + \
+              [900000, 0, 0, 0, 18446744073709551615, 1500, 0, 0]
+    WORDS = ["input 1: the usage alarm comes at 5124095576030 h", "input 3: the setpoint of count alarm 1 is 100",
+             "input 3: the setpoint of count alarm 2 is 4294967295", "input 3: the usage alarm comes at 1 h", "input 3: the alarm switch is on",
+             "input 8: the usage alarm comes at 90 s", "relay 1: the usage alarm comes at 15 min",
+             "relay 5: the usage alarm comes at 18446744073709551615 ms", "relay 6: the usage alarm comes at 1500 ms",
+             "Nothing else is set: every other setpoint is 0, which is no alarm, and every other alarm switch is off"]
+
+    # Each with what is said of it.
+    BAD = (("input 3 setpoint-three 1", "of an input there are"), ("input 3 Alarm on", "of an input there are"),
+           ("relay 3 alarm on", "of a relay there is usage-setpoint alone"), ("relay 3 setpoint-one 1", "of a relay there is usage-setpoint alone"),
+           ("input 0 alarm on", "numbered from 1 to 8"), ("relay 9 usage-setpoint 1", "numbered from 1 to 8"),
+           ("input -1 alarm on", "numbered from 1 to 8"), ("lamp 3 alarm on", "begins with input or relay"), ("Input 3 alarm on", "begins with input"),
+           ("input 3", "a line has four words"), ("input", "a line has four words"), ("input 3 alarm", "a line has four words"),
+           ("input 3 alarm on and off", "a line has four words"), ("input 3 alarm on off", "a line ends behind its value"),
+           ("input 3 setpoint-one 5 ms", "a line ends behind its value"), ("input 3 alarm 1", "on or off"), ("input 3 alarm ON", "on or off"),
+           ("input 3 setpoint-one 4294967296", "from 0 to 4294967295"), ("input 3 setpoint-two -1", "from 0 to 4294967295"),
+           ("input 3 setpoint-two 5s", "from 0 to 4294967295"), ("input 3 setpoint-two 1e3", "from 0 to 4294967295"),
+           ("relay 3 usage-setpoint 18446744073709551616", "at most 18446744073709551615"),
+           ("relay 3 usage-setpoint 5124095576031h", "at most 18446744073709551615"), ("relay 3 usage-setpoint min", "is a number"),
+           ("relay 3 usage-setpoint " + "9" * 400, "at most 18446744073709551615"), ("relay 3 usage-setpoint 5d", "ms, s, min or h may stand"),
+           ("relay 3 usage-setpoint 5 d", "ms, s, min or h may stand"), ("relay 3 usage-setpoint 5s s", "ms, s, min or h may stand"),
+           ("relay 3 usage-setpoint 1h30min", "ms, s, min or h may stand"), ("relay 3 usage-setpoint -5", "ms, s, min or h may stand"))
+
+    def file(self, text):
+        path = os.path.join(self.folder.name, "settings")
+        with open(path, "w", encoding="latin-1", newline="") as file:
+            file.write(text)
+        return path
+
+    def powered(self, text):
+        """The numbers with which the box is powered up."""
+        with Boxd("--settings", self.file(text), trace=True) as host:
+            host.quit()
+            with open(host.trace, encoding="ascii") as trace:
+                name, *numbers = trace.readline().split()
+        self.assertEqual(name, "power")
+        return [int(word) for word in numbers]
+
+    def check(self, text, status):
+        """What --check-settings prints, in lines: to standard output, and to standard error."""
+        done = subprocess.run([os.path.join(ROOT, "host", "exec"), PROGRAM, "--check-settings", self.file(text)], stdout=subprocess.PIPE,
+                              stderr=subprocess.PIPE, text=True, timeout=PATIENCE)
+        self.assertEqual(done.returncode, status, done.stderr)
+        return done.stdout.splitlines(), done.stderr.splitlines()
+
+    def test_lines(self):
+        """Each line sets what it names, and what no line names is 0 or off; the numbers of all that is set mean the same."""
+        self.assertEqual(self.powered(self.LINES), self.NUMBERS)
+        self.assertEqual(self.powered("\n  ".join(map(str, self.NUMBERS))), self.NUMBERS)
+        self.assertEqual(self.powered("input 1 alarm on"), [0, 0, 0, 1] + [0] * 36)
+
+    def test_every_thing(self):
+        """Each of the 40, alone, where it belongs."""
+        names = [f"input {k} {name}" for k in range(1, 9) for name in ("setpoint-one", "setpoint-two", "usage-setpoint", "alarm")]
+        names += [f"relay {k} usage-setpoint" for k in range(1, 9)]
+        numbers = [1 if name.endswith("alarm") else 1000 + place for place, name in enumerate(names)]
+        lines = [f"{name} {'on' if name.endswith('alarm') else number_}\n" for name, number_ in zip(names, numbers)]
+        random.Random("settings").shuffle(lines)
+        self.assertEqual(self.powered("".join(lines)), numbers)
+
+    def test_check(self):
+        """--check-settings says what a file means, of lines and of numbers, and starts nothing."""
+        self.assertEqual(self.check(self.LINES, 0), (self.WORDS, []))
+        self.assertEqual(self.check(" ".join(map(str, self.NUMBERS)), 0), (self.WORDS, []))
+        self.assertEqual(self.check("0 " * 40, 0), (self.WORDS[-1:], []))
+
+    def test_errors_are_named(self):
+        """Each error with its line and what to do, all at once; nothing starts, and nothing is told of what would be set."""
+        text = "# bad ones\ninput 3 setpoint-one 100\n" + "".join(line + "\n" for line, _ in self.BAD)
+        told, wrong = self.check(text, 1)
+        self.assertEqual(told, [])
+        for index, (line, said) in enumerate(self.BAD):
+            self.assertRegex(wrong[index], rf"settings, line {index + 3}: .*{re.escape(said)}", line)
+        self.assertIn(f"{len(self.BAD)} errors in the settings file", wrong[len(self.BAD)])
+        self.assertEqual(len(wrong), len(self.BAD) + 1)
+        self.assertEqual(self.refused("--settings", self.file(text)).splitlines(), wrong)
+
+    def test_set_twice(self):
+        """The same thing set twice is an error that names both lines, also where both say the same; the same of another channel is none."""
+        text = "input 2 alarm on\n\ninput 3 alarm on\nrelay 2 usage-setpoint 5\ninput 2 alarm on\nrelay 2 usage-setpoint 6s\nrelay 3 usage-setpoint 5\n"
+        _, wrong = self.check(text, 1)
+        self.assertEqual([re.sub(".*settings, ", "", line) for line in wrong[:-1]],
+                         ["line 5: this is set in line 1 already; keep one of the two", "line 6: this is set in line 4 already; keep one of the two"])
+
+    def test_files_that_cannot_be_used(self):
+        """A folder, a file that sets nothing, one that is no text or too large, too many numbers: each says what to do."""
+        self.assertIn("Name a plain file", self.refused("--settings", self.folder.name))
+        self.assertIn("Name another file", self.refused("--check-settings", os.path.join(self.folder.name, "none")))
+        for text in ("", "\n", "# input 3 alarm on"):
+            self.assertIn("write a line into it", self.refused("--settings", self.file(text)))
+        self.assertIn("Name a file of settings", self.refused("--settings", self.file("input 3 alarm on\n\0")))
+        line = "input 3 alarm on"
+        self.assertIn("Name a file of settings", self.refused("--settings", self.file(line + " " * (65537 - len(line)))))
+        self.assertEqual(len(self.check(line + " " * (65536 - len(line)), 0)[0]), 2)
+        self.assertIn("more than 40 numbers", self.refused("--settings", self.file("0 " * 41)))
+        self.assertIn("number 4 of 40", self.refused("--settings", self.file("0 0 0 2 " + "0 " * 36)))
+
+
+# ---------------------------------------------------------------------------------------------
 # Arguments
 # ---------------------------------------------------------------------------------------------
 
@@ -1324,7 +1442,8 @@ class Arguments(Case):
         for words, said in ((("--listen", "9200"), "Write for example"), (("--listen", "localhost:9200"), "Write for example"),
                             (("--listen", "127.0.0.1:65536"), "Write for example"), (("--listen",), "--help says what"),
                             (("--loud",), "--help lists them"), (("--strict", "1"), "--help lists them"), (("--seed", "-1"), "Write for example"),
-                            (("--settings", short), "number 4 of 40"), (("--settings", short + "x"), "Name another after"),
+                            (("--settings", short), "number 4 of 40"), (("--settings", short + "x"), "Name another file"),
+                            (("--check-settings",), "--help says what"),
                             (("--listen", "192.0.2.1:9200"), "choose one that it has"),
                             (("--listen", "127.0.0.1:0", "--trace", self.folder.name), "Name another file")):
             self.assertIn(said, self.refused(*words), words)
@@ -1341,12 +1460,24 @@ class Arguments(Case):
             self.assertEqual(program.ended(), 1)
             self.assertTrue(program.find("Raise `ulimit -n`"))
 
+    def printed(self, *words):
+        """What it prints to standard output, and nothing besides, without starting anything."""
+        done = subprocess.run(words, stdout=subprocess.PIPE, stderr=subprocess.PIPE, text=True, check=True, timeout=PATIENCE)
+        self.assertEqual(done.stderr, "")
+        return done.stdout
+
     def test_help(self):
-        done = subprocess.run([os.path.join(ROOT, "host", "exec"), PROGRAM, "--help"], stdout=subprocess.PIPE, text=True, check=True,
-                              timeout=PATIENCE)
-        for word in ("--listen", "--users", "--strict", "--settings", "--seed", "--trace", "level K V", "filled P", "emptied P", "state",
-                     "quit"):
-            self.assertIn(word, done.stdout)
+        """-h and --help print the same, and --version the one place's."""
+        exec_ = (os.path.join(ROOT, "host", "exec"), PROGRAM)
+        help_ = self.printed(*exec_, "--help")
+        for word in ("--listen", "--users", "--open", "--strict", "--settings", "--check-settings", "--seed", "--trace", "--version", "level K V",
+                     "filled P", "emptied P", "state", "quit"):
+            self.assertIn(word, help_)
+        self.assertEqual(self.printed(*exec_, "-h"), help_)
+        self.assertEqual(self.printed(*exec_, "--listen", "nowhere", "-h"), help_)
+        with open(os.path.join(ROOT, "host", "wellacorn.h"), encoding="ascii") as header:
+            version = re.search(r'#define WELLACORN_VERSION "([\d.]+)"', header.read())[1]
+        self.assertEqual(self.printed(*exec_, "--version"), f"boxd {version}\n")
 
 
 if __name__ == "__main__":
