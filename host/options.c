@@ -255,6 +255,19 @@ static bool keeps_apart(const options *o)
     return true;
 }
 
+/* Each client is an administrator without a login: not everybody who reaches the machine, unless that is meant. */
+static bool is_guarded(const options *o)
+{
+    if (o->users != NULL || o->open || o->loopback) {
+        return true;
+    }
+    char at[ADDRESS];
+    address_words(&o->address, at, sizeof at);
+    fprintf(stderr, "boxd: others than this machine reach %s, and without --users each of them is an administrator. Write --users FILE for a login, or "
+            "--open if that is meant\n", at);
+    return false;
+}
+
 /* What is printed instead of starting. Whether there was something. */
 static bool only_prints(int argc, char **argv)
 {
@@ -285,5 +298,5 @@ options_came options_read(options *o, int argc, char **argv)
     if (o->check_settings != NULL) {
         return settings_check(o->check_settings) ? OPTIONS_DONE : OPTIONS_BAD;
     }
-    return read_seed(o) && keeps_apart(o) ? OPTIONS_GOOD : OPTIONS_BAD;
+    return read_seed(o) && keeps_apart(o) && is_guarded(o) ? OPTIONS_GOOD : OPTIONS_BAD;
 }

@@ -1444,7 +1444,7 @@ class Arguments(Case):
                             (("--loud",), "--help lists them"), (("--strict", "1"), "--help lists them"), (("--seed", "-1"), "Write for example"),
                             (("--settings", short), "number 4 of 40"), (("--settings", short + "x"), "Name another file"),
                             (("--check-settings",), "--help says what"),
-                            (("--listen", "192.0.2.1:9200"), "choose one that it has"),
+                            (("--listen", "192.0.2.1:9200", "--open"), "choose one that it has"),
                             (("--listen", "127.0.0.1:0", "--trace", self.folder.name), "Name another file")):
             self.assertIn(said, self.refused(*words), words)
 
@@ -1459,6 +1459,21 @@ class Arguments(Case):
         with Program(shell) as program:
             self.assertEqual(program.ended(), 1)
             self.assertTrue(program.find("Raise `ulimit -n`"))
+
+    def test_open_is_meant(self):
+        """An address that others reach, without a login, is refused unless --open says that it is meant; with a login it needs no such word."""
+        for address in ("0.0.0.0:0", "[::]:0", "192.0.2.1:0", "[2001:db8::1]:0", "128.0.0.1:0", "[::ffff:127.0.0.1]:0"):
+            said = self.refused("--listen", address)
+            self.assertRegex(said, "others than this machine reach .* administrator. Write --users FILE for a login, or --open if that is meant")
+        users = self.users_file(adduser.line("anna", 1, b"salmon", 1000))
+        for words in (("--open",), ("--users", users)):         # this machine has no such address: it is tried, and so it was let through
+            self.assertIn("choose one that it has", self.refused("--listen", "192.0.2.1:9200", *words))
+        for words, greeting in ((("127.3.2.1:0",), "each client is an administrator$"),
+                                (("0.0.0.0:0", "--open"), "each client is an administrator, and others than this machine reach it")):
+            with Program([os.path.join(ROOT, "host", "exec"), PROGRAM, "--listen", *words]) as program:
+                program.wait_for(greeting)
+                program.tell("quit")
+                self.assertEqual(program.ended(), 0)
 
     def printed(self, *words):
         """What it prints to standard output, and nothing besides, without starting anything."""
