@@ -12,6 +12,8 @@ import hashlib
 import os
 import random
 import re
+import select
+import shutil
 import signal
 import socket
 import subprocess
@@ -1482,8 +1484,8 @@ class Arguments(Case):
         return done.stdout
 
     def test_help(self):
-        """-h and --help print the same, and --version the one place's."""
-        exec_ = (os.path.join(ROOT, "host", "exec"), PROGRAM)
+        """-h and --help print the same, and --version the one place's; the whole of it is there before anything is built, by ./run."""
+        exec_, run = (os.path.join(ROOT, "host", "exec"), PROGRAM), os.path.join(ROOT, "run")
         help_ = self.printed(*exec_, "--help")
         for word in ("--listen", "--users", "--open", "--strict", "--settings", "--check-settings", "--seed", "--trace", "--version", "level K V",
                      "filled P", "emptied P", "state", "quit"):
@@ -1493,6 +1495,141 @@ class Arguments(Case):
         with open(os.path.join(ROOT, "host", "wellacorn.h"), encoding="ascii") as header:
             version = re.search(r'#define WELLACORN_VERSION "([\d.]+)"', header.read())[1]
         self.assertEqual(self.printed(*exec_, "--version"), f"boxd {version}\n")
+        self.assertEqual(self.printed(run, "--version"), f"boxd {version}\n")
+        for word in ("-h", "--help"):
+            own, behind = self.printed(run, word).split("\nboxd: ", 1)
+            self.assertEqual("boxd: " + behind, help_)
+            self.assertIn("--panel", own)
+
+
+# ---------------------------------------------------------------------------------------------
+# The first start
+# ---------------------------------------------------------------------------------------------
+
+class FirstStart(Case):
+    """host/progress and ./run, in a tree of their own, over what they start."""
+
+    def copy(self, *files):
+        for name in files:
+            os.makedirs(os.path.dirname(os.path.join(self.folder.name, name)), exist_ok=True)
+            shutil.copy(os.path.join(ROOT, name), os.path.join(self.folder.name, name))
+
+    def progress(self, script, **more):
+        self.copy("crates.txt", "host/progress")
+        return subprocess.Popen([os.path.join(self.folder.name, "host", "progress"), "bash", "-c", script], stdin=subprocess.PIPE, **more)
+
+    def shown(self, script, status):
+        """What it shows, in lines, where that is no terminal."""
+        with self.progress(script, stderr=subprocess.PIPE, stdout=subprocess.DEVNULL, text=True) as process:
+            _, printed = process.communicate(timeout=PATIENCE)
+        self.assertEqual(process.returncode, status, printed)
+        return printed.splitlines()
+
+    def log(self):
+        with open(os.path.join(self.folder.name, "target", "prover.log"), encoding="ascii") as log:
+            return log.read().splitlines()
+
+    def proof(self):
+        """The crates that are proved in their order, the library's own the last, and what the prover says: first of each but that one, then of all."""
+        with open(os.path.join(ROOT, "crates.txt"), encoding="ascii") as file:
+            needs = {name: words.split() for name, words in (line.split(":") for line in file)}
+        crates = []
+
+        def visit(crate):
+            for need in needs[crate]:
+                visit(need)
+            if crate not in crates:
+                crates.append(crate)
+
+        visit("capi")
+        said = [line for crate in crates[:-1] for line in (f"fn {crate}::part: proved", f"rt: {crate} proved (16 s)")]
+        said += [f"rt: ok, {len(crates) - 1} crates proved", *(f"rt: {crate} proved (unchanged since it was last proved)" for crate in crates[:-1]),
+                 "fn capi::wellacorn_close: proved", "rt: target/staticlib/libcapi.a has the functions of capi"]
+        return crates, said
+
+    def script(self, said):
+        """A script that says so."""
+        path = os.path.join(self.folder.name, "said")
+        with open(path, "w", encoding="ascii") as file:
+            file.write("\n".join(said) + "\n")
+        return f"cat '{path}' >&2; "
+
+    def test_progress(self):
+        """A line for each crate, once, and how long all took; what host/archive says passes, and what the prover says is kept."""
+        crates, said = self.proof()
+        archive = ["host/archive: proving the library", "host/archive: target/x86_64-linux-gnu/libwellacorn.a"]
+        lines = self.shown(self.script([archive[0], *said, archive[1]]), 0)
+        self.assertGreater(len(crates), 30)
+        self.assertEqual([re.sub(r", (\d+ min )?\d+ s$", "", line) for line in lines[1:-2]],
+                         [f"crate {index + 1} of {len(crates)} ({crate})" for index, crate in enumerate(crates[:-1])])
+        self.assertEqual([lines[0], lines[-2]], archive)
+        self.assertRegex(lines[-1], rf"^host/progress: {len(crates)} crates proved in (\d+ min )?\d+ s; .* target/prover.log$")
+        self.assertEqual(self.log(), said)
+
+    def test_nothing_to_prove(self):
+        """Then nothing is said, and what the prover said last stays; with the next proof it is gone."""
+        self.shown(self.script(["rt: laws proved (1 s)"]), 0)
+        self.assertEqual(self.shown("true", 0), [])
+        self.assertEqual(self.log(), ["rt: laws proved (1 s)"])
+        self.shown(self.script(["rt: numbers proved (1 s)"]), 0)
+        self.assertEqual(self.log(), ["rt: numbers proved (1 s)"])
+
+    def test_failure(self):
+        """The last lines that the prover said, where the rest is, and the status of what failed, a signal's too."""
+        said = [f"line {index}" for index in range(100)]
+        lines = self.shown(self.script(said) + "echo host/archive: this failed: rt check; exit 7", 7)
+        self.assertEqual(lines[:-1], ["host/archive: this failed: rt check"] + said[60:])
+        self.assertRegex(lines[-1], "it failed after .* s. These are the last lines .* target/prover.log$")
+        self.assertEqual(self.log(), said)
+        self.shown("kill -KILL $$", 128 + signal.SIGKILL)
+
+    def test_terminal(self):
+        """On a terminal it is one line, which is rewritten, and on which the time goes on while nothing is said."""
+        master, slave = os.openpty()
+        gate = os.path.join(self.folder.name, "gate")
+        os.mkfifo(gate)
+        opened = os.open(gate, os.O_RDWR)
+        seen, begun = b"", time.monotonic()
+        with self.progress(self.script(["rt: laws proved (1 s)", "rt: numbers proved (1 s)"]) + f"read <'{gate}'; exit 7", stderr=slave) as process:
+            os.close(slave)
+            try:
+                while not re.search(rb"\(numbers\), [1-9]\d* s", seen):
+                    self.assertLess(time.monotonic() - begun, PATIENCE)
+                    self.assertTrue(select.select([master], [], [], PATIENCE)[0])
+                    seen += os.read(master, 4096)
+            finally:
+                os.write(opened, b"\n")
+                self.assertEqual(process.wait(PATIENCE), 7)
+                os.close(opened)
+                os.close(master)
+        self.assertNotIn(b"\n", seen)
+        self.assertEqual(seen.count(b"\r\x1b[K"), seen.count(b"crate "))
+        self.assertLess(seen.index(b"crate 1 of "), seen.index(b"crate 2 of "))
+
+    def run_over_stubs(self, *words):
+        """What ./run prints where host/exec prints the words that it is given, and nothing is built."""
+        self.copy("run", "host/options.c", "host/wellacorn.h")
+        for name, text in (("build", "exit 0"), ("exec", 'printf "%s\\n" "$@"')):
+            path = os.path.join(self.folder.name, "host", name)
+            with open(path, "w", encoding="ascii") as file:
+                file.write(f"#!/bin/sh\n{text}\n")
+            os.chmod(path, 0o755)
+        done = subprocess.run([os.path.join(self.folder.name, "run"), *words], stdin=subprocess.DEVNULL, stdout=subprocess.PIPE, text=True,
+                              timeout=PATIENCE, check=True)
+        return done.stdout.splitlines()
+
+    def test_run(self):
+        """./run simulates and says so first; what only prints something, and --quiet, does neither."""
+        first, *given = self.run_over_stubs("--strict")
+        self.assertRegex(first, "^SIMULATED: ")
+        self.assertEqual(given, ["boxd", "--simulate", "--strict"])
+        self.assertEqual(self.run_over_stubs("--quiet", "--seed", "7"), ["boxd", "--seed", "7"])
+        self.assertEqual(self.run_over_stubs("--check-settings", "a file"), ["boxd", "--check-settings", "a file"])
+        self.assertRegex("\n".join(self.run_over_stubs("--version")), r"^boxd [\d.]+$")
+        for word in ("-h", "--help"):
+            lines = self.run_over_stubs(word)
+            self.assertIn("--panel", "\n".join(lines))
+            self.assertTrue(any(line.startswith("    --check-settings FILE ") for line in lines))
 
 
 if __name__ == "__main__":
