@@ -1400,6 +1400,14 @@ class Settings(Case):
         self.assertEqual(self.check(" ".join(map(str, self.NUMBERS)), 0), (self.WORDS, []))
         self.assertEqual(self.check("0 " * 40, 0), (self.WORDS[-1:], []))
 
+    def test_example(self):
+        """The example of docs/HOST.md is a settings file, and sets what it says."""
+        with open(os.path.join(ROOT, "docs", "HOST.md"), encoding="utf-8") as paper:
+            example = paper.read().split("\n## Settings\n")[1].split("\n|")[0]
+        lines = [line for line in example.splitlines() if line.startswith("    ")]
+        told, _ = self.check("\n".join(lines), 0)
+        self.assertEqual([line.split(":")[0] for line in told], ["input 3"] * 4 + ["relay 5", "Nothing else is set"])
+
     def test_errors_are_named(self):
         """Each error with its line and what to do, all at once; nothing starts, and nothing is told of what would be set."""
         text = "# bad ones\ninput 3 setpoint-one 100\n" + "".join(line + "\n" for line, _ in self.BAD)
