@@ -207,9 +207,8 @@ bool box_due(const box *b, uint8_t c)
     return line->due != 0 || line->external != 0;
 }
 
-size_t box_content(const box *b, uint8_t c, const came *it, const uint8_t **content)
+size_t box_content(const box *b, uint8_t c, const uint8_t **content)
 {
-    (void)it;       /* the library's header keeps what it told */
     return (size_t)wellacorn_box_content(&b->lent, c, content);
 }
 

@@ -73,7 +73,7 @@ came box_bytes(box *b, uint8_t c, const uint8_t *piece, size_t n);
 bool box_due(const box *b, uint8_t c);
 
 /* The content of the message that the last box_bytes on connection c ended, served or refused: wellacorn_box_content of the header. */
-size_t box_content(const box *b, uint8_t c, const came *it, const uint8_t **content);
+size_t box_content(const box *b, uint8_t c, const uint8_t **content);
 
 /* Wraps content into a frame, for what the host itself has to say. Gives the frame's length; 5 + n bytes must fit. */
 size_t frame_of(uint8_t *frame, const uint8_t *content, size_t n);

@@ -116,7 +116,7 @@ static void wipe_password(host *h, uint8_t c, const came *it)
 {
     const uint8_t *content;
     bool is_whole = it->done.answer == WELLACORN_NOT_OFFERED || it->done.answer == WELLACORN_BAD_CHECKSUM;
-    size_t n = is_whole && h->door.users != NULL ? box_content(&h->box, c, it, &content) : 0;
+    size_t n = is_whole && h->door.users != NULL ? box_content(&h->box, c, &content) : 0;
     if (n > 0 && content[0] == LOGIN_TYPE) {
         wipe_room(h, c, n);
     }
@@ -183,7 +183,7 @@ static void close_line(host *h, uint8_t c, const char *why)
 /* The content of such a message; 0 bytes of any other. */
 static size_t not_offered(const host *h, uint8_t c, const came *it, const uint8_t **content)
 {
-    return it->done.answer == WELLACORN_NOT_OFFERED ? box_content(&h->box, c, it, content) : 0;
+    return it->done.answer == WELLACORN_NOT_OFFERED ? box_content(&h->box, c, content) : 0;
 }
 
 /* What a message asks the host: nothing, if nobody has logged in. */

@@ -3,7 +3,6 @@
 
 #include "counts.h"
 
-#include "frame.h"
 #include "numbers.h"
 #include "say.h"
 
@@ -205,25 +204,16 @@ bool counts_begin(counts *k, const char *path)
 
 /* ---- Back to the box */
 
-/* A number into `size` bytes, the highest first. Gives the place behind it. */
-static uint8_t *put(uint8_t *p, int size, uint64_t number)
-{
-    for (int i = size - 1; i >= 0; i--, number >>= 8) {
-        p[i] = (uint8_t)number;
-    }
-    return p + size;
-}
-
 /* 001, WriteDevices: for each input its ID, the block's length, the flag and the count. Gives the content's length. */
 static size_t write_devices(uint8_t *content, const uint64_t values[WELLACORN_CHANNELS])
 {
-    uint8_t *p = put(content, 1, WRITE_DEVICES);
-    p = put(p, 2, WELLACORN_CHANNELS);
+    uint8_t *p = number_put(content, 1, WRITE_DEVICES);
+    p = number_put(p, 2, WELLACORN_CHANNELS);
     for (uint64_t k = 1; k <= WELLACORN_CHANNELS; k++) {
-        p = put(p, 8, 0x100 * k + 0xFF);
-        p = put(p, 2, 5);
-        p = put(p, 1, WRITE_COUNT);
-        p = put(p, 4, values[k - 1]);
+        p = number_put(p, 8, 0x100 * k + 0xFF);
+        p = number_put(p, 2, 5);
+        p = number_put(p, 1, WRITE_COUNT);
+        p = number_put(p, 4, values[k - 1]);
     }
     return (size_t)(p - content);
 }

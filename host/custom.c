@@ -1,6 +1,8 @@
 /* What a client may ask the host itself. */
 #include "custom.h"
 
+#include "numbers.h"
+
 #include <string.h>
 
 enum { ANSWER_TYPE = 254, GOOD = 0 };
@@ -22,26 +24,17 @@ custom_question custom_asks(const uint8_t *content, size_t n)
 
 /* ---- Answers */
 
-/* A number into `size` bytes, the highest first. Gives the place behind it. */
-static uint8_t *put(uint8_t *p, int size, uint64_t number)
-{
-    for (int i = size - 1; i >= 0; i--, number >>= 8) {
-        p[i] = (uint8_t)number;
-    }
-    return p + size;
-}
-
 static uint8_t *put_head(uint8_t *p, uint64_t payload)
 {
-    p = put(p, 1, ANSWER_TYPE);
-    p = put(p, 1, GOOD);
-    return put(p, 2, payload);
+    p = number_put(p, 1, ANSWER_TYPE);
+    p = number_put(p, 1, GOOD);
+    return number_put(p, 2, payload);
 }
 
 size_t custom_pulses(uint8_t content[CUSTOM_LONGEST], const wellacorn_board *board)
 {
     uint8_t *p = put_head(content, 1);
-    p = put(p, 1, board->queue.standing);
+    p = number_put(p, 1, board->queue.standing);
     return (size_t)(p - content);
 }
 
@@ -51,12 +44,12 @@ size_t custom_refused(uint8_t content[CUSTOM_LONGEST], const refusal *last, uint
     const refusal *told = last->is_one ? last : &none;
     uint64_t seconds = last->is_one ? (now - last->at) / 1000 : 0;
     uint8_t *p = put_head(content, 10);
-    p = put(p, 1, (uint64_t)told->is_one + told->has_type);
-    p = put(p, 1, told->connection);
-    p = put(p, 1, told->type);
-    p = put(p, 1, told->answer);
-    p = put(p, 2, told->place);
-    p = put(p, 4, seconds < UINT32_MAX ? seconds : UINT32_MAX);
+    p = number_put(p, 1, (uint64_t)told->is_one + told->has_type);
+    p = number_put(p, 1, told->connection);
+    p = number_put(p, 1, told->type);
+    p = number_put(p, 1, told->answer);
+    p = number_put(p, 2, told->place);
+    p = number_put(p, 4, seconds < UINT32_MAX ? seconds : UINT32_MAX);
     return (size_t)(p - content);
 }
 
@@ -74,7 +67,7 @@ void custom_heard(refusal *last, const box *b, uint8_t c, const came *it, uint64
     if (!is_refused(it->done.answer)) {
         return;
     }
-    bool has_type = box_content(b, c, it, &content) > 0;
+    bool has_type = box_content(b, c, &content) > 0;
     *last = (refusal){
         .is_one = true,
         .has_type = has_type,

@@ -7,7 +7,6 @@
  *     dirty [CALLS]    prints a line for each function: how often it was called, and how often something differed. Fails if anything did.
  *
  * That a library which looks there is found out is tried too (tests/test_archive.py). */
-#include "frame.h"
 #include "wellacorn.h"
 
 #include <inttypes.h>
@@ -150,7 +149,7 @@ static void choose_piece(void)
     if (any() % 4 == 0) {
         content[below((unsigned)n)] = (uint8_t)any();
     }
-    frame_head(piece, content, n);
+    wellacorn_frame(piece, content, n);
     piece_len = any() % 4 == 0 ? below(5 + (unsigned)n + 1) : 5 + n;
 }
 

@@ -4,6 +4,7 @@
 #include "guests.h"
 
 #include "box.h"
+#include "passwords.h"
 
 #include <errno.h>
 #include <stdio.h>
@@ -67,6 +68,7 @@ void guests_turn(guest *g, uint64_t now, bool ready)
     if (now >= g->until || n == 0 || (n < 0 && errno != EAGAIN && errno != EINTR)) {
         end_guest(g);
     }
+    wipe(scrap, sizeof scrap);      /* a password may be among it */
 }
 
 uint64_t guests_next(const guest all[GUESTS])

@@ -7,7 +7,7 @@
  */
 #define _POSIX_C_SOURCE 200809L
 
-#include "frame.h"
+#include "wellacorn.h"
 
 #include <arpa/inet.h>
 #include <netinet/in.h>
@@ -68,7 +68,7 @@ static void request(uint8_t frame[REQUEST], uint8_t asked)
     frame[HEADER] = 5;
     frame[HEADER + 1] = 0;
     frame[HEADER + 2] = asked;
-    frame_head(frame, frame + HEADER, REQUEST - HEADER);
+    wellacorn_frame(frame, frame + HEADER, REQUEST - HEADER);
 }
 
 static int connected(uint16_t port)

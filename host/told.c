@@ -274,7 +274,7 @@ static void told_message(const box *b, uint8_t c, const came *it)
 {
     words w = {.n = 0};
     const uint8_t *content;
-    size_t n = box_content(b, c, it, &content);
+    size_t n = box_content(b, c, &content);
     if (it->done.answer == WELLACORN_SERVED) {
         add_served(&w, b, content);
         add_switched(&w, b, it->switched);
