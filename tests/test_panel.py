@@ -33,17 +33,19 @@ import protocol                                                                 
 
 
 class Panel(Program):
-    def __init__(self, port, *words, secret=None):
-        super().__init__([sys.executable, os.path.join(ROOT, "panel", "panel.py"), "--box", f"127.0.0.1:{port}", "--port", "0", *words])
+    def __init__(self, port, *words, secret=None, listen=("--port", "0"), **more):
+        super().__init__([sys.executable, os.path.join(ROOT, "panel", "panel.py"), "--box", f"127.0.0.1:{port}", *listen, *words], **more)
         if secret is not None:
             self.tell(secret)
         self.port = int(self.wait_for(r"open http://127\.0\.0\.1:(\d+)/").group(1))
+        self.cookie = None
 
     def ask(self, method, path, body=None, **headers):
         """Status, headers and body of a reply."""
         connection = http.client.HTTPConnection("127.0.0.1", self.port, timeout=PATIENCE)
+        headers.setdefault("Cookie", self.cookie)
         try:
-            connection.request(method, path, body, {name.replace("_", "-"): value for name, value in headers.items()})
+            connection.request(method, path, body, {name.replace("_", "-"): value for name, value in headers.items() if value is not None})
             reply = connection.getresponse()
             return reply.status, reply.headers, reply.read().decode("utf-8")
         finally:
@@ -71,6 +73,19 @@ class Panel(Program):
 
     def pulse(self, relay, ms, **headers):
         return self.post("/pulse", json.dumps({"relay": relay, "ms": ms}), headers)
+
+
+    def clear(self, input_, count, **headers):
+        return self.post("/clear", json.dumps({"input": input_, "count": count}), headers)
+
+    def set_clock(self, **headers):
+        return self.post("/clock", "{}", headers)
+
+    def log_in(self, name, password, **headers):
+        """Keeps the cookie, if there is one."""
+        reply = self.post("/login", json.dumps({"name": name, "password": password}), headers)
+        self.cookie = reply[1]["Set-Cookie"].split(";")[0] if reply[0] == 200 else self.cookie
+        return reply
 
 
 class Plain:
