@@ -319,6 +319,7 @@ class Server(http.server.ThreadingHTTPServer):
     """`door` is None where no login is asked: everybody may do everything then."""
 
     daemon_threads = True
+    request_queue_size = MOST_CONNECTIONS
 
     def __init__(self, address, box, door=None, names=()):
         self.address_family = socket.AF_INET6 if ":" in address[0] else socket.AF_INET

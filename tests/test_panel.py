@@ -1,6 +1,6 @@
 #!/usr/bin/env python3
-"""The panel over HTTP, against the host: what it shows, its buttons, its pulses, the second deck, who may press them, and what it says when the
-box is gone.
+"""The panel over HTTP, against the host: what it shows, its buttons, its pulses, clearing and setting the clock, the second deck, names, the day, who
+may press the buttons and who is let in, and what it says when the box is gone.
 
     python3 tests/test_panel.py
 
@@ -19,16 +19,20 @@ import tempfile
 import threading
 import time
 import unittest
+import unittest.mock
 
 from answers import ALREADY_OPEN, BAD_CHECKSUM, BAD_RANK, BY_NAME, QUEUE_FULL, TOO_LONG
 from boxd import (Boxd, CLOCK, Client, HOW_MANY, LAST_REFUSED, MONITOR, PATIENCE, PROGRAM, Program, ROOT, command, custom_answer, frame, pulse,
                   refused, unchecked)
-from model import Box, RELAY_IDS, field, number
+from model import Box, INPUT_IDS, RELAY_IDS, field, number
 
 sys.path.insert(0, os.path.join(ROOT, "host"))
 sys.path.insert(0, os.path.join(ROOT, "panel"))
 import adduser                                                                                      # noqa: E402
 import box as panel_box                                                                             # noqa: E402
+import day as panel_day                                                                             # noqa: E402
+import door                                                                                         # noqa: E402
+import names                                                                                        # noqa: E402
 import protocol                                                                                     # noqa: E402
 
 
@@ -158,7 +162,7 @@ class Case(unittest.TestCase):
         with tempfile.NamedTemporaryFile("w") as settings:
             settings.write("2 3 1 1 " * 8 + "1 " * 8)
             settings.flush()
-            with Boxd("--settings", settings.name) as host, Panel(host.port) as panel, Client(host.port) as client:
+            with Boxd("--quiet", "--settings", settings.name) as host, Panel(host.port) as panel, Client(host.port) as client:
                 state = panel.wait_until(answers)
                 self.assertEqual([i["count"] for i in state["inputs"]], [0] * 8)
                 self.assertEqual(state["name"], "jr310 3.10.0001")
@@ -183,7 +187,7 @@ class Case(unittest.TestCase):
         with tempfile.NamedTemporaryFile("w") as settings:
             settings.write("2 3 0 0 " * 8 + "0 " * 8)
             settings.flush()
-            with Boxd("--settings", settings.name) as host, Panel(host.port) as panel, Client(host.port) as client:
+            with Boxd("--quiet", "--settings", settings.name) as host, Panel(host.port) as panel, Client(host.port) as client:
                 panel.wait_until(answers)
 
                 def shows(count, lamp, reached):
@@ -205,7 +209,7 @@ class Case(unittest.TestCase):
 
     def test_buttons(self):
         """A button switches its relay, and says so when the box shows it; a second press of the same changes nothing."""
-        with Boxd() as host, Panel(host.port) as panel, Client(host.port) as client:
+        with Boxd("--quiet") as host, Panel(host.port) as panel, Client(host.port) as client:
             panel.wait_until(answers)
             for relay, closed in ((1, True), (8, True), (8, True), (1, False)):
                 self.assertEqual(panel.press(relay, closed)[0], 200)
@@ -224,7 +228,7 @@ class Case(unittest.TestCase):
 
     def test_pulses(self):
         """A pulse button pulses its relay for so long, and says whether the pulse has begun or waits; how many stand is shown."""
-        with Boxd() as host, Panel(host.port) as panel, Client(host.port) as client:
+        with Boxd("--quiet") as host, Panel(host.port) as panel, Client(host.port) as client:
             self.assertEqual(panel.wait_until(answers)["standing"], 0)
             self.assertEqual(panel.pulse(3, 1500)[::2], (200, "The pulse of relay 3, 1500 ms, has begun.\n"))
             state = panel.state()
@@ -243,7 +247,7 @@ class Case(unittest.TestCase):
 
     def test_full_queue(self):
         """Where 31 stand, the panel says that the box takes no more.  The longest pulse is taken."""
-        with Boxd() as host, Panel(host.port) as panel, Client(host.port) as client:
+        with Boxd("--quiet") as host, Panel(host.port) as panel, Client(host.port) as client:
             panel.wait_until(answers)
             self.assertEqual(panel.pulse(6, 4294967295)[0], 200)
             client.send(pulse(1, 5) * 29)
@@ -259,9 +263,71 @@ class Case(unittest.TestCase):
         self.assertEqual(host.count(refused(QUEUE_FULL)), 2)
         self.assertEqual(host.count("relay 7"), 0)
 
+    def test_clearing(self):
+        """A count is cleared that was confirmed; where the input has another by then, nothing is cleared, and the other is told."""
+        with Boxd("--quiet") as host, Panel(host.port) as panel:
+            panel.wait_until(answers)
+            for line in ("level 3 1", "level 3 0") * 4 + ("level 5 1",):
+                host.tell(line)
+            host.wait_for("input 5 is on")
+            for confirmed in (3, 5, 0, 4294967295):
+                status, _, said = panel.clear(3, confirmed)
+                self.assertEqual((status, json.loads(said)), (409, {"said": f"Input 3 has 4 counted now, not {confirmed}. Nothing was cleared.", "count": 4}))
+            self.assertEqual(panel.state()["inputs"][2]["count"], 4)
+            self.assertEqual(panel.clear(3, 4)[::2], (200, "Input 3 is cleared. It had 4 counted.\n"))
+            self.assertEqual([i["count"] for i in panel.state()["inputs"]], [0, 0, 0, 0, 1, 0, 0, 0])
+            for body in ("", "{}", "[]", "7", '{"input":3}', '{"count":0}', '{"input":0,"count":0}', '{"input":9,"count":0}', '{"input":"3","count":0}',
+                         '{"input":true,"count":0}', '{"input":3,"count":-1}', '{"input":3,"count":4294967296}', '{"input":3,"count":false}', "\xff"):
+                self.assertEqual(panel.post("/clear", body.encode("latin-1"), {})[0], 400, body)
+            host.process.kill()
+            panel.wait_until(lambda s: not s["answers"])
+            status, _, said = panel.clear(5, 1)
+            self.assertEqual(status, 502)
+            self.assertIn("did not show the count of input 5 cleared", said)
+
+    def test_fish_between_question_and_clearing(self):
+        """What rose after the panel's last look is cleared with the count; the input is read directly before the command, so it is told."""
+        block = b"\x00\x00" + field(2, 4) + bytes(11)
+        read_three = frame(b"\x15\x00\x01" + field(INPUT_IDS[2], 8))
+        plain = Plain({read_three: frame(b"\x16\x00\x01" + field(INPUT_IDS[2], 8) + field(len(block), 2) + block)})
+        with Panel(plain.port) as panel:
+            panel.wait_until(answers)
+            self.assertEqual(panel.clear(3, 0)[::2], (200, "Input 3 is cleared. It had 2 counted, 2 more than was confirmed.\n"))
+        plain.close()
+
+    def test_clock(self):
+        """The box's clock is set to that of the panel's machine, where the panel itself is an administrator there."""
+        with Boxd("--quiet") as host, Panel(host.port) as panel, Client(host.port) as client:
+            panel.wait_until(answers)
+            before = time.time() * 1000
+            self.assertEqual(panel.set_clock()[::2], (200, "The clock of the box is set.\n"))
+            self.assertTrue(before - 1 <= client.clock() <= time.time() * 1000 + 1000)
+            host.process.kill()
+            panel.wait_until(lambda s: not s["answers"])
+            self.assertEqual(panel.set_clock()[0], 502)         # though what was last seen is near enough
+
+    def test_clock_of_a_user(self):
+        """A panel that is no administrator at the box does not even ask."""
+        with tempfile.TemporaryDirectory() as folder:
+            users = self.users(folder)
+            with Boxd("--quiet", "--users", users) as host, Panel(host.port, "--user", "anna", secret="salmon") as panel:
+                self.assertEqual(panel.wait_until(answers)["rank"], 1)
+                status, _, said = panel.set_clock()
+                self.assertEqual(status, 403)
+                self.assertIn("anna has rank 1. Start the panel with --user of an administrator.", said)
+                host.quit()
+            self.assertEqual(host.count("type 7|set the clock"), 0)
+
+    def users(self, folder):
+        """A file with anna, a user, and olav, an administrator."""
+        path = os.path.join(folder, "users")
+        with open(path, "w", encoding="ascii") as file:
+            file.write(adduser.line("anna", 1, b"salmon", 1000) + "\n" + adduser.line("olav", 2, b"cod", 1000) + "\n")
+        return path
+
     def test_pulses_that_are_none(self):
         """A duration or a relay that the box would not take is not even sent."""
-        with Boxd() as host, Panel(host.port) as panel:
+        with Boxd("--quiet") as host, Panel(host.port) as panel:
             panel.wait_until(answers)
             for body in ("", "{}", "[]", '{"relay":1}', '{"ms":5}', '{"relay":1,"ms":0}', '{"relay":1,"ms":-1}', '{"relay":1,"ms":4294967296}',
                          '{"relay":1,"ms":1.5}', '{"relay":1,"ms":"5"}', '{"relay":1,"ms":true}', '{"relay":1,"ms":null}', '{"relay":0,"ms":5}',
@@ -283,7 +349,7 @@ class Case(unittest.TestCase):
 
     def test_second_deck(self):
         """M-102: the second deck is shown as far as its modules are there, with the states that its relays have, whoever switched them."""
-        with Boxd() as host, Panel(host.port) as panel, Client(host.port) as client:
+        with Boxd("--quiet") as host, Panel(host.port) as panel, Client(host.port) as client:
             self.assertEqual(panel.wait_until(answers)["deck"], [])
             host.tell("filled 2")
             host.wait_for("place 2 is filled")
@@ -309,7 +375,7 @@ class Case(unittest.TestCase):
 
     def test_absent_relays(self):
         """M-102: a relay whose module is not there is not even asked for; where the module goes just then, the box refuses it, and the panel says so."""
-        with Boxd() as host, Panel(host.port) as panel:
+        with Boxd("--quiet") as host, Panel(host.port) as panel:
             panel.wait_until(answers)
             self.assertEqual(self.module(host, panel, "filled 1"), shown_open(9, 10, 11, 12))
             count = host.count("commanded")
@@ -328,12 +394,12 @@ class Case(unittest.TestCase):
 
     def test_other_deck_after_a_loss(self):
         """M-102: after the box was gone, the deck is that of the box as it is now."""
-        with Boxd() as host, Panel(host.port) as panel:
+        with Boxd("--quiet") as host, Panel(host.port) as panel:
             host.tell("filled 1")
             panel.wait_until(lambda s: deck(s) == shown_open(9, 10, 11, 12))
             host.process.kill()
             panel.wait_until(lambda s: not s["answers"])
-            with Boxd(port=host.port) as again:
+            with Boxd("--quiet", port=host.port) as again:
                 again.tell("filled 2")
                 panel.wait_until(lambda s: s["answers"] and deck(s) == shown_open(13, 14, 15, 16))
                 again.quit()
@@ -410,7 +476,7 @@ class Case(unittest.TestCase):
 
     def test_last_refused(self):
         """M-105: the last message that the box refused, whoever sent it, stands on the panel in words; none after power-up."""
-        with Boxd() as host, Panel(host.port) as panel:
+        with Boxd("--quiet") as host, Panel(host.port) as panel:
             panel.wait_until(answers)
             with Client(host.port) as client:
                 client.clock()
@@ -433,7 +499,7 @@ class Case(unittest.TestCase):
             panel.wait_until(lambda s: re.search(r", [1-9]\d* (s|min) ago$", s["refused"]))
             host.process.kill()
             panel.wait_until(lambda s: not s["answers"])
-            with Boxd(port=host.port) as again:
+            with Boxd("--quiet", port=host.port) as again:
                 panel.wait_until(lambda s: s["answers"] and s["refused"] == "")
                 again.quit()
 
@@ -446,7 +512,7 @@ class Case(unittest.TestCase):
             users = os.path.join(folder, "users")
             with open(users, "w", encoding="ascii") as file:
                 file.write(adduser.line("anna", 1, b"salmon", 1000) + "\n")
-            with Boxd("--users", users) as host, Panel(host.port, "--user", "anna", secret="salmon") as panel:
+            with Boxd("--quiet", "--users", users) as host, Panel(host.port, "--user", "anna", secret="salmon") as panel:
                 self.assertEqual(panel.wait_until(answers)["refused"], "")
                 with Client(host.port) as nobody:
                     nobody.send(frame(b"\x07"))
@@ -485,7 +551,7 @@ class Case(unittest.TestCase):
 
     def test_other_sites_press_nothing(self):
         """A request under another name, or a command from another page, is refused."""
-        with Boxd() as host, Panel(host.port) as panel:
+        with Boxd("--quiet") as host, Panel(host.port) as panel:
             panel.wait_until(answers)
             own = f"127.0.0.1:{panel.port}"
             for headers in ({"Origin": "http://evil.example"}, {"Origin": None}, {"Origin": "null"}, {"Origin": "https://" + own},
@@ -494,16 +560,20 @@ class Case(unittest.TestCase):
                             {"Content_Type": "text/plain"}, {"Content_Type": "application/x-www-form-urlencoded"}, {"Content_Type": None}):
                 self.assertEqual(panel.press(4, True, **headers)[0], 403, headers)
                 self.assertEqual(panel.pulse(4, 5, **headers)[0], 403, headers)
-            for path in ("/", "/state", "/events"):
-                self.assertEqual(panel.ask("GET", path, Host="evil.example")[0], 403)
+                self.assertEqual(panel.clear(4, 0, **headers)[0], 403, headers)
+                self.assertEqual(panel.set_clock(**headers)[0], 403, headers)
+            for path in ("/", "/state", "/events", "/day"):
+                for name in ("evil.example", f"evil.example:{panel.port}", "127.0.0.1", f"127.0.0.2:{panel.port}", ""):
+                    self.assertEqual(panel.ask("GET", path, Host=name)[0], 403, name)
             self.assertEqual(panel.press(4, True, Content_Length="100000")[0], 413)
             self.assertEqual(panel.ask("GET", "/../panel.py")[0], 404)
-            self.assertFalse(host.find("relay 4"))
+            self.assertFalse(host.find("relay 4|input 4"))
+            self.assertLess(panel.state()["clock"], 1e9)
             host.quit()
 
     def test_page(self):
         """One page, with nothing from elsewhere; its events bring the state."""
-        with Boxd() as host, Panel(host.port) as panel:
+        with Boxd("--quiet") as host, Panel(host.port) as panel:
             status, headers, body = panel.ask("GET", "/")
             self.assertEqual(status, 200)
             self.assertNotIn("http:", body.replace("http://www.w3.org/2000/svg", ""))          # a name, which nothing is fetched by
@@ -530,7 +600,7 @@ class Case(unittest.TestCase):
 
     def test_box_gone_and_back(self):
         """When the box is gone the panel says so, since when and what to check; a button then fails; it finds the box again by itself."""
-        with Boxd() as host, Panel(host.port) as panel:
+        with Boxd("--quiet") as host, Panel(host.port) as panel:
             first = panel.wait_until(answers)
             host.process.kill()
             gone = panel.wait_until(lambda s: not s["answers"])
@@ -542,7 +612,7 @@ class Case(unittest.TestCase):
             status, _, said = panel.pulse(1, 5)
             self.assertEqual(status, 502)
             self.assertIn("did not tell whether it took the pulse of relay 1", said)
-            with Boxd(port=host.port) as again:
+            with Boxd("--quiet", port=host.port) as again:
                 back = panel.wait_until(answers)
                 self.assertGreaterEqual(back["since"], gone["since"])
                 self.assertEqual(panel.press(1, True)[0], 200)
@@ -550,7 +620,7 @@ class Case(unittest.TestCase):
 
     def test_fifth_connection(self):
         """When all four connections are in use, the panel says what the box told it."""
-        with Boxd() as host:
+        with Boxd("--quiet") as host:
             four = [Client(host.port) for _ in range(4)]
             for client in four:
                 client.clock()
@@ -568,14 +638,17 @@ class Case(unittest.TestCase):
             users = os.path.join(folder, "users")
             with open(users, "w", encoding="ascii") as file:
                 file.write(adduser.line("anna", 1, b"salmon", 1000) + "\n")
-            with Boxd("--users", users) as host, Panel(host.port, "--user", "anna", secret="salmon") as panel, \
+            with Boxd("--quiet", "--users", users) as host, Panel(host.port, "--user", "anna", secret="salmon") as panel, \
                     Panel(host.port) as nobody, Panel(host.port, "--user", "anna", secret="trout") as wrong:
                 panel.wait_until(answers)
                 self.assertEqual(panel.press(3, True)[0], 200)
-                wrong.wait_until(lambda s: "It refused the login of anna" in s["check"])
-                nobody.wait_until(lambda s: "start the panel with --user NAME" in s["check"])
+                wrong.wait_until(lambda s: "It refused the login of anna, which is not tried again." in s["check"])
+                wrong.wait_for("does not let the panel in. It refused the login of anna")
+                nobody.wait_until(lambda s: "start the panel with --user NAME" in s["check"])       # seconds later: a second try would have been made
                 self.assertTrue(panel.state()["answers"])
+                self.assertEqual(wrong.press(3, False)[0], 502)
                 host.quit()
+            self.assertEqual(host.count("login of .* refused"), 1)
 
     def test_strict_box(self):
         """M-103: what the panel sends has its true checksum, its login too, so that a strict box refuses none of it."""
@@ -583,7 +656,7 @@ class Case(unittest.TestCase):
             users = os.path.join(folder, "users")
             with open(users, "w", encoding="ascii") as file:
                 file.write(adduser.line("anna", 1, b"salmon", 1000, strict=True) + "\n")
-            with Boxd("--strict", "--users", users) as host, Panel(host.port, "--user", "anna", secret="salmon") as panel:
+            with Boxd("--quiet", "--strict", "--users", users) as host, Panel(host.port, "--user", "anna", secret="salmon") as panel:
                 panel.wait_until(answers)
                 self.assertEqual(panel.press(3, True)[0], 200)
                 self.assertEqual(panel.pulse(5, 20)[::2], (200, "The pulse of relay 5, 20 ms, has begun.\n"))
@@ -592,14 +665,328 @@ class Case(unittest.TestCase):
             self.assertEqual(host.count("anna logged in, user, strict$"), 1)
             self.assertEqual(host.count(refused(BAD_CHECKSUM)), 0)
 
+    def test_names(self):
+        """Names of inputs from a file, in any UTF-8; what is wrong in it is told with its line, and then nothing starts."""
+        with tempfile.TemporaryDirectory() as folder:
+            path = os.path.join(folder, "names")
+
+            def write(data):
+                with open(path, "wb") as file:
+                    file.write(data)
+
+            write("\ufeff# The port side\n\n  input 3   Lift port aft \r\ninput 8 <b>緊急</b> & \u202e\n".encode() + b"input 1 " + b"x" * 40)
+            self.assertEqual(names.read(path), ["x" * 40, "", "Lift port aft", "", "", "", "", "<b>緊急</b> & \u202e"])
+            with Panel(free_port(), "--names", path) as panel:
+                self.assertEqual(panel.state()["names"], names.read(path))
+            write(b"input 3 one\ninput 3 two\ninput 0 a\ninput 9 a\nrelay 1 a\ninput 4\n# \xe6 \ninput 5 \xe6\ninput 6 " + b"x" * 41 +
+                  b"\ninput 7 a\x1bb\ninput 99999999999 a\ninput x a\n")
+            done = self.started("--names", path)
+            self.assertEqual(re.findall(r"line (\d+)", done), ["2", "3", "4", "5", "6", "7", "8", "9", "10", "11", "12"])
+            self.assertIn(f"panel: {path}, line 9: the name has 41 characters; 40 is the most\n", done)
+            self.assertIn("cannot read the names in", self.started("--names", os.path.join(folder, "none")))
+
+    def started(self, *words):
+        """What a panel says that does not start."""
+        done = subprocess.run([sys.executable, os.path.join(ROOT, "panel", "panel.py"), *words], stdout=subprocess.PIPE, stderr=subprocess.STDOUT,
+                              stdin=subprocess.DEVNULL, text=True, timeout=PATIENCE)
+        self.assertEqual(done.returncode, 1, done.stdout)
+        return done.stdout
+
+    def at(self, hour, minute, day=12):
+        """A moment of a day in local time."""
+        return time.mktime((2026, 3, day, hour, minute, 0, 0, 0, -1))
+
+    def seen(self, day, now):
+        """The quarters of the day that were seen, of inputs 1 and 2."""
+        shown = json.loads(day.shown(now))
+        return [{q: n for q, n in enumerate(row) if n is not None} for row in shown["quarters"][:2]]
+
+    def test_day(self):
+        """A rise counts to the quarter in which it was seen; a count that falls begins anew; quarters in which nothing was seen are gaps; a new day
+        begins at midnight, local time.
+        """
+        day = panel_day.Day(now=self.at(6, 0))
+        for hour, minute, counts in ((6, 1, (100, 7)), (6, 14, (103, 7)), (6, 15, (103, 8)), (6, 29, (104, 0)), (6, 29, (104, 2)), (7, 0, (110, 2)),
+                                     (7, 1, (5, 3)), (7, 2, (6, 3)), (23, 59, (6, 4))):
+            day.see([*counts] + [0] * 6, self.at(hour, minute))
+        self.assertEqual(self.seen(day, self.at(23, 59)), [{24: 3, 25: 1, 28: 7, 95: 0}, {24: 0, 25: 3, 28: 1, 95: 1}])
+        self.assertEqual(self.seen(day, self.at(0, 0, 13)), [{}, {}])
+        day.see([8, 4] + [0] * 6, self.at(0, 16, 13))
+        self.assertEqual(self.seen(day, self.at(0, 16, 13)), [{1: 2}, {1: 0}])
+        shown = json.loads(day.shown(self.at(0, 16, 13)))
+        self.assertEqual((shown["date"], shown["quarter"], len(shown["quarters"]), len(shown["quarters"][7])), ("2026-03-13", 1, 8, 96))
+
+    def test_day_over_a_restart(self):
+        """The day is taken up from its file, with what rose meanwhile; an older one is not; what is no day is named, and never written over."""
+        with tempfile.TemporaryDirectory() as folder:
+            path = os.path.join(folder, "day")
+            day = panel_day.Day(path, self.at(6, 0))
+            day.see([1] * 8, self.at(6, 0))
+            day.see([3] * 8, self.at(6, 1))                                 # too soon behind the first to be written by itself
+            self.assertEqual(self.seen(panel_day.Day(path, self.at(6, 2)), self.at(6, 2))[0], {24: 0})
+            day.keep(at_once=True)
+            again = panel_day.Day(path, self.at(7, 0))
+            again.see([8] * 8, self.at(7, 0))
+            self.assertEqual(self.seen(again, self.at(7, 0))[0], {24: 2, 28: 5})
+            later = panel_day.Day(path, self.at(7, 0, 13))
+            later.see([9] * 8, self.at(7, 0, 13))
+            self.assertEqual(self.seen(later, self.at(7, 0, 13))[0], {28: 0})
+            self.assertEqual(os.listdir(folder), ["day"])
+            with open(path, encoding="ascii") as file:
+                good = file.read()
+            for garbled in ("", "[]", "{}", good[:-3], good.replace('"last"', '"lost"'), good.replace("9", "-9", 1), good.replace("null", '""', 1),
+                            good.replace("null, ", "", 1), good.replace('"day"', '"night"')):
+                self.leaves(path, garbled)
+
+    def leaves(self, path, garbled):
+        with open(path, "w", encoding="ascii") as file:
+            file.write(garbled)
+        with unittest.mock.patch("builtins.print") as said:
+            day = panel_day.Day(path, self.at(7, 0, 13))
+            day.see([9] * 8, self.at(7, 0, 13))
+            day.see([10] * 8, self.at(7, 0, 13))
+            day.keep(at_once=True)
+        self.assertIn(f"The day cannot be read from {path}", said.call_args[0][0])
+        self.assertIn(f"The day cannot be read from {path}", json.loads(day.shown(0))["said"])
+        self.assertEqual(self.seen(day, self.at(7, 0, 13))[0], {28: 1})
+        with open(path, encoding="ascii") as file:
+            self.assertEqual(file.read(), garbled)
+
+    def test_day_that_cannot_be_written(self):
+        """It is said once, and the day goes on; and once when it can be written again."""
+        with tempfile.TemporaryDirectory() as folder, unittest.mock.patch("builtins.print") as said:
+            path = os.path.join(folder, "missing", "day")
+            day = panel_day.Day(path, self.at(6, 0))
+            for count in (1, 2, 3):
+                day.see([count] * 8, self.at(6, 0))
+                day.keep(at_once=True)
+            self.assertEqual(said.call_count, 1)
+            self.assertIn(f"The day cannot be written to {path}", json.loads(day.shown(0))["said"])
+            os.mkdir(os.path.dirname(path))
+            day.keep(at_once=True)
+            self.assertEqual((said.call_count, json.loads(day.shown(0))["said"]), (2, ""))
+            self.assertEqual(self.seen(panel_day.Day(path, self.at(6, 1)), self.at(6, 0))[0], {24: 2})
+
+    def test_day_of_a_panel(self):
+        """What the box counts is on the page's plot, and after a restart of the panel still."""
+        def counted(panel):
+            return [sum(n or 0 for n in row) for row in json.loads(panel.ask("GET", "/day")[2])["quarters"]]
+
+        with tempfile.TemporaryDirectory() as folder, Boxd("--quiet") as host:
+            words = ("--day", os.path.join(folder, "day"))
+            with Panel(host.port, *words) as panel:
+                version = panel.wait_until(answers)["day"]
+                for line in ("level 3 1", "level 3 0") * 4 + ("level 5 1",):
+                    host.tell(line)
+                panel.wait_until(lambda s: s["inputs"][4]["count"] == 1 and s["day"] != version)
+                self.assertEqual(counted(panel), [0, 0, 4, 0, 1, 0, 0, 0])
+                panel.process.terminate()
+                self.assertEqual(panel.ended(), 0)
+            with Panel(host.port, *words) as panel:
+                panel.wait_until(answers)
+                self.assertEqual(counted(panel), [0, 0, 4, 0, 1, 0, 0, 0])
+            host.quit()
+
+    def test_beyond_this_machine(self):
+        """On another address than loopback people log in with the box's users.  Nothing is shown and nothing done without; a user does not set the
+        clock; one login is weighed at a time, and a wrong one slows down its address.
+        """
+        with tempfile.TemporaryDirectory() as folder:
+            with Boxd("--quiet", "--users", self.users(folder)) as host, \
+                    Panel(host.port, "--user", "olav", "--host-name", "Barge.example", secret="cod", listen=("--listen", "0.0.0.0:0")) as panel:
+                self.shut_out(panel, None)
+                self.shut_out(panel, f"wellacorn-{panel.port}=x")
+                self.assertEqual(panel.log_in("anna", "salmon", Origin="http://evil.example")[0], 403)
+                self.weighed_one_at_a_time(panel, host)
+                self.may_do(panel, "olav", "cod", 200)
+                self.may_do(panel, "anna", "salmon", 403)
+                name = f"barge.example:{panel.port}"
+                self.assertEqual(panel.press(2, True, Host=name, Origin="http://" + name)[0], 200)
+                self.assertEqual(panel.ask("GET", "/state", Host="evil.example")[0], 403)
+                self.ends_with_log_out(panel)
+                host.quit()
+            self.assertEqual(host.count("relay 4"), 0)
+
+    def shut_out(self, panel, cookie):
+        """Without a session there is the login page, and nothing else."""
+        panel.cookie = cookie
+        status, headers, body = panel.ask("GET", "/")
+        self.assertEqual((status, "Log in with a name" in body, "Relay" in body), (200, True, False))
+        self.assertIn("default-src 'none'", headers["Content-Security-Policy"])
+        for path in ("/state", "/events", "/day"):
+            self.assertEqual(panel.ask("GET", path)[0], 401, path)
+        for reply in (panel.press(4, True), panel.pulse(4, 5), panel.clear(4, 0), panel.set_clock(), panel.post("/logout", "{}", {})):
+            self.assertEqual(reply[0], 401)
+
+    def weighed_one_at_a_time(self, panel, host):
+        """While a wrong password is weighed, which the box draws out, another login is told to come back; the next from there waits."""
+        before = len(host.lines)
+        replies = []
+        thread = threading.Thread(target=lambda: replies.append(panel.log_in("anna", "trout")))
+        thread.start()
+        host.wait_for("connected", before)
+        self.assertEqual(panel.log_in("anna", "salmon")[::2], (503, "Another login is being weighed. Try again in some seconds.\n"))
+        thread.join(PATIENCE)
+        self.assertEqual(replies[0][::2], (403, "The box refused that name and password.\n"))
+        self.assertIsNone(replies[0][1]["Set-Cookie"])
+        status, _, said = panel.log_in("anna", "salmon")
+        self.assertEqual(status, 429, said)
+        self.assertRegex(said, r"^That was wrong before\. Try again in 1 s\.$")
+
+    def may_do(self, panel, name, password, clock):
+        """Logs in, which may have to wait, and does what everybody may; `clock` is what becomes of setting the clock."""
+        end = time.monotonic() + PATIENCE
+        status, headers, said = panel.log_in(name, password)
+        while status == 429 and time.monotonic() < end:
+            time.sleep(0.05)
+            status, headers, said = panel.log_in(name, password)
+        self.assertEqual((status, said), (200, "Logged in.\n"))
+        self.assertRegex(headers["Set-Cookie"], rf"^wellacorn-{panel.port}=[\w-]{{43}}; HttpOnly; SameSite=Strict; Path=/; Max-Age=43200$")
+        state = panel.wait_until(answers)
+        self.assertEqual((state["user"], state["user_rank"]), (name, 1 if clock == 403 else 2))
+        self.assertIn("Relay", panel.ask("GET", "/")[2])
+        self.assertEqual([reply[0] for reply in (panel.press(3, True), panel.pulse(3, 5), panel.clear(3, 0), panel.set_clock())], [200, 200, 200, clock])
+
+    def ends_with_log_out(self, panel):
+        """The events of a session end with it."""
+        connection = http.client.HTTPConnection("127.0.0.1", panel.port, timeout=PATIENCE)
+        connection.request("GET", "/events", headers={"Cookie": panel.cookie})
+        events = connection.getresponse()
+        self.event(events)
+        self.assertEqual(panel.post("/logout", "{}", {})[0], 200)
+        while events.readline():
+            pass
+        connection.close()
+        self.shut_out(panel, panel.cookie)
+
+    def test_box_without_users_beyond_this_machine(self):
+        """Where the box lets everybody in, the panel does not listen beyond this machine, unless it is told to with --open."""
+        with Boxd("--quiet") as host:
+            box = ("--box", f"127.0.0.1:{host.port}", "--listen", "0.0.0.0:0")
+            said = self.started(*box)
+            self.assertIn("the box asks for no login", said)
+            self.assertIn("--open", said)
+            with Panel(host.port, "--open", listen=("--listen", "0.0.0.0:0")) as panel:
+                self.assertTrue(panel.find("everybody who reaches this address may command the box"))
+                panel.wait_until(answers)
+                self.assertEqual(panel.press(1, True)[0], 200)
+                self.assertEqual(panel.log_in("anna", "x")[0], 404)
+                self.assertEqual(panel.ask("GET", "/state", Host="evil.example")[0], 403)
+            host.quit()
+
+    def test_box_that_is_not_there_at_the_start(self):
+        """Where the box cannot be asked, a login is asked, --open or not; a box without users that comes up later lets nobody in."""
+        port = free_port()
+        with Panel(port, "--open", listen=("--listen", "0.0.0.0:0")) as panel:
+            self.assertTrue(panel.find("Nobody is let in before it refuses a login"))
+            status, _, said = panel.log_in("anna", "x")
+            self.assertEqual(status, 502)
+            self.assertIn("The box could not be asked", said)
+            with Boxd("--quiet", port=port) as host:
+                status, _, said = panel.log_in("anna", "x")
+                self.assertEqual(status, 403)
+                self.assertIn("The box asks for no login now", said)
+                self.shut_out(panel, None)
+                host.quit()
+
+    def test_sessions(self):
+        """They end after twelve hours; there are 48 at most, and the oldest gives way; a login that is none does not even reach the box."""
+        now = 1000.0
+        with unittest.mock.patch("door.seconds", lambda: now), unittest.mock.patch("door.box_ranks", lambda *_: [0, 1]):
+            keeper = door.Door(("nowhere", 0))
+            cookies = []
+            for i in range(49):
+                now += 1
+                cookies.append(keeper.log_in(f"user {i}", "", "here")[1])
+            self.assertEqual([keeper.session(cookie) is not None for cookie in cookies], [False] + [True] * 48)
+            last = keeper.session(cookies[-1])
+            self.assertEqual((last.name, last.rank, keeper.lets(last)), ("user 48", 1, True))
+            now += 12 * 3600 - 1
+            self.assertEqual([cookies.index(cookie) for cookie in cookies if keeper.session(cookie)], [48])
+            self.assertTrue(keeper.lets(last))
+            now += 1
+            self.assertFalse(keeper.lets(last))
+            self.assertIsNone(keeper.session(cookies[-1]))
+
+    def test_slowing_down(self):
+        """Each wrong password doubles the wait of its address, to half a minute; a right one ends it; other addresses do not wait."""
+        now, ranks = 1000.0, [0, 0]
+        with unittest.mock.patch("door.seconds", lambda: now), unittest.mock.patch("door.box_ranks", lambda *_: ranks):
+            keeper = door.Door(("nowhere", 0))
+            for wait in (1, 2, 4, 8, 16, 30, 30):
+                self.assertEqual(self.turned(keeper, "here"), 403)
+                self.assertEqual(self.turned(keeper, "here"), 429)
+                now += wait - 0.01
+                self.assertEqual(self.turned(keeper, "here"), 429)
+                now += 0.01
+            ranks = [0, 2]
+            self.assertEqual(keeper.log_in("olav", "", "there")[0].rank, 2)
+            self.assertEqual(keeper.log_in("olav", "", "here")[0].rank, 2)
+            ranks = [0, 0]
+            self.assertEqual((self.turned(keeper, "here"), keeper.slow.wait("here")), (403, 1))
+            for i in range(300):
+                self.turned(keeper, str(i))
+            self.assertEqual(len(keeper.slow.wrong), door.MOST_ADDRESSES)
+            for ranks, status in (([2, 2], 403), ([1, 1], 403), ([0, 0], 403)):
+                self.assertEqual(self.turned(keeper, "elsewhere"), status)
+
+    def turned(self, keeper, client):
+        with self.assertRaises(door.Turned) as turned:
+            keeper.log_in("anna", "", client)
+        return turned.exception.status
+
+    def test_ranks_of_logins(self):
+        """001: bit 7 is an administrator, bit 1 may control; who may neither is not let in."""
+        self.assertEqual([protocol.rank_of(answer) for answer in (0xFF, 0x80, 0x82, 0xFE, 0x02, 0x03, 0x00, 0x01, 0x7D)], [0, 2, 2, 2, 1, 1, 0, 0, 0])
+
+    def test_logins_that_are_none(self):
+        with Panel(free_port(), listen=("--listen", "0.0.0.0:0")) as panel:
+            for body in ("", "{}", "[]", '{"name":"anna"}', '{"name":"","password":""}', '{"name":"anna","password":7}', '{"name":7,"password":""}',
+                         json.dumps({"name": "x" * 256, "password": ""}), json.dumps({"name": "\u00e6", "password": ""}), "[" * 900):
+                self.assertEqual(panel.post("/login", body, {})[0], 400, body)
+
+    def test_room(self):
+        """Beyond 64 connections a browser is turned away at once; when others go, there is room again."""
+        with Panel(free_port()) as panel:
+            idle = [socket.create_connection(("127.0.0.1", panel.port), PATIENCE) for _ in range(64)]
+            with socket.create_connection(("127.0.0.1", panel.port), PATIENCE) as one_more:
+                self.assertEqual(one_more.recv(1), b"")
+            for connection in idle:
+                connection.close()
+            end = time.monotonic() + PATIENCE
+            while not self.has_room(panel) and time.monotonic() < end:
+                time.sleep(0.02)
+            self.assertTrue(self.has_room(panel))
+
+    def has_room(self, panel):
+        try:
+            return panel.ask("GET", "/state")[0] == 200
+        except (OSError, http.client.HTTPException):
+            return False
+
+    def test_wrong_arguments(self):
+        """Each says what to write instead."""
+        for words, said in ((("--box", "9200"), "Write for example --box 127.0.0.1:9200"),
+                            (("--listen", "9280"), "Write for example --listen 192.168.1.20:9280"),
+                            (("--listen", "barge.example:9280"), "and the name with --host-name barge.example"),
+                            (("--listen", "127.0.0.1:65536"), "--listen needs ADDRESS:PORT"),
+                            (("--listen", "127.0.0.1:0", "--port", "9280"), "leave --port out"),
+                            (("--host-name", "barge.example:9280"), "Write for example --host-name barge-7.lan"),
+                            (("--host-name", ""), "Write for example --host-name barge-7.lan")):
+            self.assertIn(said, self.started(*words))
+
     def test_start_and_end(self):
-        """SIGTERM ends it cleanly; a port in use and a bad address say what to do."""
-        with Boxd() as host, Panel(host.port) as panel:
-            words = [sys.executable, os.path.join(ROOT, "panel", "panel.py")]
-            for more, said in ((["--port", str(panel.port)], "choose another port with --port"), (["--box", "9200"], "Write for example --box")):
-                done = subprocess.run(words + more, stdout=subprocess.PIPE, stderr=subprocess.STDOUT, text=True, timeout=PATIENCE)
-                self.assertEqual(done.returncode, 1)
-                self.assertIn(said, done.stdout)
+        """SIGTERM ends it cleanly; a port in use says which option chooses another; it starts through a link, from anywhere."""
+        with Boxd("--quiet") as host, Panel(host.port) as panel, tempfile.TemporaryDirectory() as folder:
+            busy = str(panel.port)
+            for more, said in ((("--port", busy), "choose another port with --port PORT"),
+                               (("--port", busy, "--advice=--panel-port PORT"), "choose another port with --panel-port PORT"),
+                               (("--listen", f"127.0.0.1:{busy}"), "choose another port with --listen ADDRESS:PORT")):
+                self.assertIn(said, self.started(*more))
+            link = os.path.join(folder, "wellacorn-panel")
+            os.symlink(os.path.join(ROOT, "panel", "panel.py"), link)
+            done = subprocess.run([sys.executable, link, "--help"], cwd="/", stdout=subprocess.PIPE, text=True, timeout=PATIENCE)
+            self.assertEqual((done.returncode, "--listen" in done.stdout, "--advice" in done.stdout), (0, True, False))
             panel.process.terminate()
             self.assertEqual(panel.ended(), 0)
             self.assertTrue(panel.find("panel: ended"))
@@ -608,7 +995,7 @@ class Case(unittest.TestCase):
     def test_run(self):
         """`./run --panel` starts both; Ctrl-C ends both, and so does `quit`, and even a kill of the box."""
         for end in ("Ctrl-C", "quit", "a kill"):
-            words = [os.path.join(ROOT, "run"), "--panel", "--panel-port", "0", "--listen", f"127.0.0.1:{free_port()}"]
+            words = [os.path.join(ROOT, "run"), "--quiet", "--panel", "--panel-port", "0", "--listen", f"127.0.0.1:{free_port()}"]
             with self.subTest(end), Program(words, start_new_session=True) as both:
                 both.port = int(both.wait_for(r"open http://127\.0\.0\.1:(\d+)/").group(1))
                 both.wait_for(r"127\.0\.0\.1:\d+ connected, administrator")
