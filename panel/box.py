@@ -235,9 +235,10 @@ class Box:
 
     def set_clock(self):
         """Sets the box's clock to this machine's; whether the box then shows it."""
-        told = self.ask(set_clock(int(time.time() * 1000)))
+        sent = int(time.time() * 1000)
+        told = self.ask(set_clock(sent))
         with self.changed:
-            return told is not None and abs(self.seen["clock"] - time.time() * 1000) <= NEAR
+            return told is not None and sent - NEAR <= self.seen["clock"] <= time.time() * 1000 + NEAR
 
     # -- the connection ----------------------------------------------------------------------------
 

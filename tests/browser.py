@@ -143,13 +143,14 @@ class Places:
         self.browser.size(SIZES[name])
         return self.browser.value(PLACES)
 
-    def hold(self, what, picture):
+    def hold(self, what, picture, look="#first"):
         for name, places in self.first.items():
             now = self.of(name)
             moved = [(i, before, after) for i, (before, after) in enumerate(zip(places, now)) if before != after]
             assert len(now) == len(places) == 42 and not moved, f"{what}: on {name} buttons {moved} have moved"
             whole = self.browser.value("document.documentElement.scrollWidth")
             assert whole <= SIZES[name]["width"], f"{what}: the page is wider than {name}"
+            self.browser.value(f"document.querySelector('{look}').scrollIntoView()")
             self.browser.picture(os.path.join(self.folder, f"{picture}-{name}.png"))
         print(f"browser: {what}: no button has moved on any size", flush=True)
 
@@ -315,7 +316,7 @@ def try_deck(browser, host, places):
     assert browser.value(f"{DECK}.length") == 0 and "No module at place 1" in browser.value(TEXT), "a second deck without modules"
     host.tell("filled 2")
     browser.wait_for(deck_shows("Relay 13 OPEN", "Relay 14 OPEN", "Relay 15 OPEN", "Relay 16 OPEN"), "the module at place 2 is shown")
-    places.hold("a module at place 2", "place-2")
+    places.hold("a module at place 2", "place-2", "#second")
     browser.size(LANDSCAPE)
     browser.value("document.querySelector(\"button[aria-label='Close relay 14']\").scrollIntoView()")
     browser.click("button[aria-label='Close relay 14']")
@@ -323,7 +324,7 @@ def try_deck(browser, host, places):
     browser.wait_for(deck_shows("Relay 13 OPEN", "Relay 14 CLOSED", "Relay 15 OPEN", "Relay 16 OPEN"), "relay 14 was closed by a click")
     host.tell("filled 1")
     browser.wait_for(f"{DECK}.length === 8 && !{TEXT}.includes('No module')", "both modules are shown")
-    places.hold("both modules", "deck")
+    places.hold("both modules", "deck", "#second")
     host.tell("emptied 2")
     browser.wait_for(deck_shows("Relay 9 OPEN", "Relay 10 OPEN", "Relay 11 OPEN", "Relay 12 OPEN"), "the module at place 2 is gone from the page")
     host.tell("emptied 1")

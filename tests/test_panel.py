@@ -304,10 +304,15 @@ class Case(unittest.TestCase):
             self.assertTrue(before - 1 <= client.clock() <= time.time() * 1000 + 1000)
             host.process.kill()
             panel.wait_until(lambda s: not s["answers"])
-            self.assertEqual(panel.set_clock()[0], 502)         # though what was last seen is near enough
+            self.assertEqual(panel.set_clock()[0], 502)
+        box = panel_box.Box(("nowhere", 0))
+        box.seen["clock"] = int(time.time() * 1000)
+        for answered, done in ((None, False), (panel_box.Told(), True)):        # a clock that is near already says nothing
+            with unittest.mock.patch.object(box, "ask", return_value=answered):
+                self.assertEqual(box.set_clock(), done)
 
     def test_clock_of_a_user(self):
-        """A panel that is no administrator at the box does not even ask."""
+        """A panel that is no administrator at the box does not even ask.  A connection that is lost is made again, with its login."""
         with tempfile.TemporaryDirectory() as folder:
             users = self.users(folder)
             with Boxd("--quiet", "--users", users) as host, Panel(host.port, "--user", "anna", secret="salmon") as panel:
@@ -316,6 +321,10 @@ class Case(unittest.TestCase):
                 self.assertEqual(status, 403)
                 self.assertIn("anna has rank 1. Start the panel with --user of an administrator.", said)
                 host.quit()
+                with Boxd("--quiet", "--users", users, port=host.port) as again:
+                    again.wait_for("anna logged in, user")
+                    panel.wait_until(answers)
+                    again.quit()
             self.assertEqual(host.count("type 7|set the clock"), 0)
 
     def users(self, folder):
@@ -720,9 +729,10 @@ class Case(unittest.TestCase):
         """The day is taken up from its file, with what rose meanwhile; an older one is not; what is no day is named, and never written over."""
         with tempfile.TemporaryDirectory() as folder:
             path = os.path.join(folder, "day")
-            day = panel_day.Day(path, self.at(6, 0))
-            day.see([1] * 8, self.at(6, 0))
-            day.see([3] * 8, self.at(6, 1))                                 # too soon behind the first to be written by itself
+            with unittest.mock.patch("day.BETWEEN_WRITES", 1e9):
+                day = panel_day.Day(path, self.at(6, 0))
+                day.see([1] * 8, self.at(6, 0))
+                day.see([3] * 8, self.at(6, 1))                             # too soon behind the first to be written by itself
             self.assertEqual(self.seen(panel_day.Day(path, self.at(6, 2)), self.at(6, 2))[0], {24: 0})
             day.keep(at_once=True)
             again = panel_day.Day(path, self.at(7, 0))
@@ -775,29 +785,33 @@ class Case(unittest.TestCase):
         with tempfile.TemporaryDirectory() as folder, Boxd("--quiet") as host:
             words = ("--day", os.path.join(folder, "day"))
             with Panel(host.port, *words) as panel:
-                version = panel.wait_until(answers)["day"]
+                panel.wait_until(answers)
                 for line in ("level 3 1", "level 3 0") * 4 + ("level 5 1",):
                     host.tell(line)
-                panel.wait_until(lambda s: s["inputs"][4]["count"] == 1 and s["day"] != version)
-                self.assertEqual(counted(panel), [0, 0, 4, 0, 1, 0, 0, 0])
+                panel.wait_until(lambda _: counted(panel) == [0, 0, 4, 0, 1, 0, 0, 0])
                 panel.process.terminate()
                 self.assertEqual(panel.ended(), 0)
+            with open(words[1], encoding="ascii") as file:
+                self.assertEqual(json.load(file)["last"], [0, 0, 4, 0, 1, 0, 0, 0])             # written at its end
             with Panel(host.port, *words) as panel:
+                self.assertEqual(counted(panel), [0, 0, 4, 0, 1, 0, 0, 0])
                 panel.wait_until(answers)
                 self.assertEqual(counted(panel), [0, 0, 4, 0, 1, 0, 0, 0])
             host.quit()
 
     def test_beyond_this_machine(self):
-        """On another address than loopback people log in with the box's users.  Nothing is shown and nothing done without; a user does not set the
-        clock; one login is weighed at a time, and a wrong one slows down its address.
+        """On another address than loopback people log in with the box's users, --open or not.  Nothing is shown and nothing done without; a user does
+        not set the clock.
         """
         with tempfile.TemporaryDirectory() as folder:
             with Boxd("--quiet", "--users", self.users(folder)) as host, \
-                    Panel(host.port, "--user", "olav", "--host-name", "Barge.example", secret="cod", listen=("--listen", "0.0.0.0:0")) as panel:
+                    Panel(host.port, "--open", "--user", "olav", "--host-name", "Barge.example", secret="cod",
+                          listen=("--listen", "0.0.0.0:0")) as panel:
                 self.shut_out(panel, None)
                 self.shut_out(panel, f"wellacorn-{panel.port}=x")
                 self.assertEqual(panel.log_in("anna", "salmon", Origin="http://evil.example")[0], 403)
-                self.weighed_one_at_a_time(panel, host)
+                status, headers, said = panel.log_in("anna", "trout")
+                self.assertEqual((status, said, headers["Set-Cookie"]), (403, "The box refused that name and password.\n", None))
                 self.may_do(panel, "olav", "cod", 200)
                 self.may_do(panel, "anna", "salmon", 403)
                 name = f"barge.example:{panel.port}"
@@ -817,21 +831,6 @@ class Case(unittest.TestCase):
             self.assertEqual(panel.ask("GET", path)[0], 401, path)
         for reply in (panel.press(4, True), panel.pulse(4, 5), panel.clear(4, 0), panel.set_clock(), panel.post("/logout", "{}", {})):
             self.assertEqual(reply[0], 401)
-
-    def weighed_one_at_a_time(self, panel, host):
-        """While a wrong password is weighed, which the box draws out, another login is told to come back; the next from there waits."""
-        before = len(host.lines)
-        replies = []
-        thread = threading.Thread(target=lambda: replies.append(panel.log_in("anna", "trout")))
-        thread.start()
-        host.wait_for("connected", before)
-        self.assertEqual(panel.log_in("anna", "salmon")[::2], (503, "Another login is being weighed. Try again in some seconds.\n"))
-        thread.join(PATIENCE)
-        self.assertEqual(replies[0][::2], (403, "The box refused that name and password.\n"))
-        self.assertIsNone(replies[0][1]["Set-Cookie"])
-        status, _, said = panel.log_in("anna", "salmon")
-        self.assertEqual(status, 429, said)
-        self.assertRegex(said, r"^That was wrong before\. Try again in 1 s\.$")
 
     def may_do(self, panel, name, password, clock):
         """Logs in, which may have to wait, and does what everybody may; `clock` is what becomes of setting the clock."""
@@ -854,8 +853,9 @@ class Case(unittest.TestCase):
         events = connection.getresponse()
         self.event(events)
         self.assertEqual(panel.post("/logout", "{}", {})[0], 200)
+        end = time.monotonic() + PATIENCE
         while events.readline():
-            pass
+            self.assertLess(time.monotonic(), end, "the events go on")
         connection.close()
         self.shut_out(panel, panel.cookie)
 
@@ -935,6 +935,26 @@ class Case(unittest.TestCase):
             keeper.log_in("anna", "", client)
         return turned.exception.status
 
+    def test_one_login_at_a_time(self):
+        """While one is weighed, which the box may draw out, another is told to come back, and does not reach the box."""
+        begun, go_on = threading.Event(), threading.Event()
+
+        def box_ranks(*_):
+            begun.set()
+            return [0, 1] if go_on.wait(PATIENCE) else [0, 0]
+
+        with unittest.mock.patch("door.box_ranks", box_ranks):
+            keeper, let_in = door.Door(("nowhere", 0)), []
+            thread = threading.Thread(target=lambda: let_in.append(keeper.log_in("anna", "", "here")))
+            thread.start()
+            self.assertTrue(begun.wait(PATIENCE))
+            with unittest.mock.patch("door.box_ranks", lambda *_: [0, 2]):
+                self.assertEqual(self.turned(keeper, "there"), 503)
+            go_on.set()
+            thread.join(PATIENCE)
+            self.assertEqual(let_in[0][0].rank, 1)
+            self.assertEqual(keeper.log_in("olav", "", "there")[0].rank, 1)
+
     def test_ranks_of_logins(self):
         """001: bit 7 is an administrator, bit 1 may control; who may neither is not let in."""
         self.assertEqual([protocol.rank_of(answer) for answer in (0xFF, 0x80, 0x82, 0xFE, 0x02, 0x03, 0x00, 0x01, 0x7D)], [0, 2, 2, 2, 1, 1, 0, 0, 0])
@@ -985,7 +1005,8 @@ class Case(unittest.TestCase):
                 self.assertIn(said, self.started(*more))
             link = os.path.join(folder, "wellacorn-panel")
             os.symlink(os.path.join(ROOT, "panel", "panel.py"), link)
-            done = subprocess.run([sys.executable, link, "--help"], cwd="/", stdout=subprocess.PIPE, text=True, timeout=PATIENCE)
+            done = subprocess.run([sys.executable, link, "--help"], cwd="/", env=dict(os.environ, PYTHONSAFEPATH="1"), stdout=subprocess.PIPE, text=True,
+                                  timeout=PATIENCE)
             self.assertEqual((done.returncode, "--listen" in done.stdout, "--advice" in done.stdout), (0, True, False))
             panel.process.terminate()
             self.assertEqual(panel.ended(), 0)
@@ -1009,6 +1030,16 @@ class Case(unittest.TestCase):
                 self.assertEqual(status, -signal.SIGKILL if end == "a kill" else 0)
                 self.assertEqual(both.count("the box has ended"), 0 if end == "a kill" else 1)
                 self.assertTrue(both.over)
+
+    def test_run_with_a_busy_port(self):
+        """Started by ./run, the panel names the option of ./run; the box runs without it."""
+        with socket.create_server(("127.0.0.1", 0)) as busy:
+            port = str(busy.getsockname()[1])
+            with Program([os.path.join(ROOT, "run"), "--quiet", "--panel", "--panel-port", port, "--listen", f"127.0.0.1:{free_port()}"]) as both:
+                both.wait_for(f"cannot listen on 127.0.0.1:{port}: .*choose another port with --panel-port PORT")
+                both.wait_for("listens on")
+                both.tell("quit")
+                self.assertEqual(both.ended(), 0)
 
 
 if __name__ == "__main__":
