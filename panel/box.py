@@ -9,6 +9,7 @@ import time
 from protocol import (ANSWERS_HOW_MANY, ANSWERS_LAST_REFUSED, BLOCK_ALARMS, CHANNELS, CLOCK, DECK, DECK_IDS, Fields, HOW_MANY, INPUT_IDS,
                       LAST_REFUSED, LIST, LOGIN_REFUSED, Lost, MONITOR, MONITOR_ALARMS, QUEUE, RELAY_IDS, Refused, Stream, clear_count, framed,
                       input_status, log_in, pulse_relay, rank_of, read_devices, refusal_words, set_clock, switch_relay)
+from tell import tell
 
 ROUND = 2.0                 # s from one look at the box to the next; changes come by themselves
 SILENCE = 5.0               # s without an answer after which the box does not answer
@@ -251,7 +252,7 @@ class Box:
                 self.lose(str(lost))
             except Refused as refused:
                 self.lose(str(refused))
-                print(f"panel: the box at {self.seen['box']} does not let the panel in. {refused}", flush=True)
+                tell(f"the box at {self.seen['box']} does not let the panel in. {refused}")
                 return
             except OSError as fault:
                 self.lose(f"{fault.strerror or fault}. Check that the box runs, that {self.seen['box']} is its address, "

@@ -11,6 +11,7 @@ import threading
 import time
 
 from protocol import CHANNELS
+from tell import tell
 
 QUARTERS = 96
 BETWEEN_WRITES = 5.0        # s
@@ -113,7 +114,7 @@ class Day:
         if words != self.said:
             self.said = words
             self.version += 1
-            print("panel: " + words if words else "panel: the day is written again", flush=True)
+            tell(words or "the day is written again")
 
     def keep(self, at_once=False):
         """Writes the day if something is new, at most once in some seconds."""

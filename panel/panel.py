@@ -25,6 +25,7 @@ from box import Box                                                 # noqa: E402
 from day import Day                                                 # noqa: E402
 from door import Door, asks_for_login                               # noqa: E402
 from protocol import LONGEST_STRING                                 # noqa: E402
+from tell import tell                                               # noqa: E402
 from web import Server                                              # noqa: E402
 
 PORT = 9280
@@ -85,9 +86,9 @@ def door_of(address, box_address, is_open):
         return None
     asks = asks_for_login(box_address)
     if asks is None:
-        print("panel: the box cannot be asked now whether it has users. Nobody is let in before it refuses a login that is no user's.", flush=True)
+        tell("the box cannot be asked now whether it has users. Nobody is let in before it refuses a login that is no user's.")
     elif not asks and is_open:
-        print("panel: everybody who reaches this address may command the box: it asks for no login, and --open lets them", flush=True)
+        tell("everybody who reaches this address may command the box: it asks for no login, and --open lets them")
         return None
     elif not asks:
         fail("the box asks for no login: everybody on the network could command it through this panel. Start the box with --users, "
@@ -137,7 +138,7 @@ def tell_address(asked, server):
     here = "127.0.0.1" if everywhere else f"[{address}]" if ":" in address else address
     elsewhere = f", or http://{asked.host_name[0] if asked.host_name else 'ADDRESS-OF-THIS-MACHINE'}:{port}/ elsewhere," if everywhere else ""
     login = " after a login" if server.door is not None else ""
-    print(f"panel: open http://{here}:{port}/{elsewhere} to see the box at {asked.box}{login}", flush=True)
+    tell(f"open http://{here}:{port}/{elsewhere} to see the box at {asked.box}{login}")
 
 
 def serve(server, box, day, ends_with_input):
@@ -150,7 +151,7 @@ def serve(server, box, day, ends_with_input):
     except KeyboardInterrupt:
         pass
     day.keep(at_once=True)
-    print("panel: ended", flush=True)
+    tell("ended")
 
 
 def main():
