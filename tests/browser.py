@@ -352,7 +352,7 @@ def try_loss(browser, host, places):
                      "the box is gone: page and title say so, and no button can be pressed")
     browser.wait_for(f"{TEXT}.includes('Check that the box runs')", "it says what to check")
     places.hold("the box is gone", "gone")
-    with Boxd("--quiet", port=host.port) as again:
+    with Boxd(port=host.port) as again:
         browser.wait_for(f"!{TEXT}.includes('does not answer') && {BUTTONS}.every(b => !b.disabled)", "the box is back: the page finds it")
         again.quit()
 
@@ -363,7 +363,7 @@ def try_login(folder):
         users = os.path.join(work, "users")
         with open(users, "w", encoding="ascii") as file:
             file.write(adduser.line("anna", 1, b"salmon", 1000) + "\n" + adduser.line("olav", 2, b"boss", 1000) + "\n")
-        with Boxd("--quiet", "--users", users) as host, \
+        with Boxd("--users", users) as host, \
                 Panel(host.port, "--user", "olav", secret="boss", listen=("--listen", "0.0.0.0:0")) as panel:
             browser = Browser(f"http://127.0.0.1:{panel.port}/")
             try:
@@ -423,7 +423,7 @@ def try_panel(folder, work):
             file.write(words)
     plausible_day(paths["day"], offset)
     zone = dict(os.environ, TZ=f"BARGE{-offset:+d}")
-    with Boxd("--quiet", "--settings", paths["settings"]) as host, Client(host.port) as client, \
+    with Boxd("--settings", paths["settings"]) as host, Client(host.port) as client, \
             Panel(host.port, "--names", paths["names"], "--day", paths["day"], env=zone) as panel:
         browser = Browser(f"http://127.0.0.1:{panel.port}/")
         try:

@@ -162,7 +162,7 @@ class Case(unittest.TestCase):
         with tempfile.NamedTemporaryFile("w") as settings:
             settings.write("2 3 1 1 " * 8 + "1 " * 8)
             settings.flush()
-            with Boxd("--quiet", "--settings", settings.name) as host, Panel(host.port) as panel, Client(host.port) as client:
+            with Boxd("--settings", settings.name) as host, Panel(host.port) as panel, Client(host.port) as client:
                 state = panel.wait_until(answers)
                 self.assertEqual([i["count"] for i in state["inputs"]], [0] * 8)
                 self.assertEqual(state["name"], "jr310 3.10.0001")
@@ -187,7 +187,7 @@ class Case(unittest.TestCase):
         with tempfile.NamedTemporaryFile("w") as settings:
             settings.write("2 3 0 0 " * 8 + "0 " * 8)
             settings.flush()
-            with Boxd("--quiet", "--settings", settings.name) as host, Panel(host.port) as panel, Client(host.port) as client:
+            with Boxd("--settings", settings.name) as host, Panel(host.port) as panel, Client(host.port) as client:
                 panel.wait_until(answers)
 
                 def shows(count, lamp, reached):
@@ -209,7 +209,7 @@ class Case(unittest.TestCase):
 
     def test_buttons(self):
         """A button switches its relay, and says so when the box shows it; a second press of the same changes nothing."""
-        with Boxd("--quiet") as host, Panel(host.port) as panel, Client(host.port) as client:
+        with Boxd() as host, Panel(host.port) as panel, Client(host.port) as client:
             panel.wait_until(answers)
             for relay, closed in ((1, True), (8, True), (8, True), (1, False)):
                 self.assertEqual(panel.press(relay, closed)[0], 200)
@@ -228,7 +228,7 @@ class Case(unittest.TestCase):
 
     def test_pulses(self):
         """A pulse button pulses its relay for so long, and says whether the pulse has begun or waits; how many stand is shown."""
-        with Boxd("--quiet") as host, Panel(host.port) as panel, Client(host.port) as client:
+        with Boxd() as host, Panel(host.port) as panel, Client(host.port) as client:
             self.assertEqual(panel.wait_until(answers)["standing"], 0)
             self.assertEqual(panel.pulse(3, 1500)[::2], (200, "The pulse of relay 3, 1500 ms, has begun.\n"))
             state = panel.state()
@@ -247,7 +247,7 @@ class Case(unittest.TestCase):
 
     def test_full_queue(self):
         """Where 31 stand, the panel says that the box takes no more.  The longest pulse is taken."""
-        with Boxd("--quiet") as host, Panel(host.port) as panel, Client(host.port) as client:
+        with Boxd() as host, Panel(host.port) as panel, Client(host.port) as client:
             panel.wait_until(answers)
             self.assertEqual(panel.pulse(6, 4294967295)[0], 200)
             client.send(pulse(1, 5) * 29)
@@ -265,7 +265,7 @@ class Case(unittest.TestCase):
 
     def test_clearing(self):
         """A count is cleared that was confirmed; where the input has another by then, nothing is cleared, and the other is told."""
-        with Boxd("--quiet") as host, Panel(host.port) as panel:
+        with Boxd() as host, Panel(host.port) as panel:
             panel.wait_until(answers)
             for line in ("level 3 1", "level 3 0") * 4 + ("level 5 1",):
                 host.tell(line)
@@ -297,7 +297,7 @@ class Case(unittest.TestCase):
 
     def test_clock(self):
         """The box's clock is set to that of the panel's machine, where the panel itself is an administrator there."""
-        with Boxd("--quiet") as host, Panel(host.port) as panel, Client(host.port) as client:
+        with Boxd() as host, Panel(host.port) as panel, Client(host.port) as client:
             panel.wait_until(answers)
             before = time.time() * 1000
             self.assertEqual(panel.set_clock()[::2], (200, "The clock of the box is set.\n"))
@@ -315,13 +315,13 @@ class Case(unittest.TestCase):
         """A panel that is no administrator at the box does not even ask.  A connection that is lost is made again, with its login."""
         with tempfile.TemporaryDirectory() as folder:
             users = self.users(folder)
-            with Boxd("--quiet", "--users", users) as host, Panel(host.port, "--user", "anna", secret="salmon") as panel:
+            with Boxd("--users", users) as host, Panel(host.port, "--user", "anna", secret="salmon") as panel:
                 self.assertEqual(panel.wait_until(answers)["rank"], 1)
                 status, _, said = panel.set_clock()
                 self.assertEqual(status, 403)
                 self.assertIn("anna has rank 1. Start the panel with --user of an administrator.", said)
                 host.quit()
-                with Boxd("--quiet", "--users", users, port=host.port) as again:
+                with Boxd("--users", users, port=host.port) as again:
                     again.wait_for("anna logged in, user")
                     panel.wait_until(answers)
                     again.quit()
@@ -336,7 +336,7 @@ class Case(unittest.TestCase):
 
     def test_pulses_that_are_none(self):
         """A duration or a relay that the box would not take is not even sent."""
-        with Boxd("--quiet") as host, Panel(host.port) as panel:
+        with Boxd() as host, Panel(host.port) as panel:
             panel.wait_until(answers)
             for body in ("", "{}", "[]", '{"relay":1}', '{"ms":5}', '{"relay":1,"ms":0}', '{"relay":1,"ms":-1}', '{"relay":1,"ms":4294967296}',
                          '{"relay":1,"ms":1.5}', '{"relay":1,"ms":"5"}', '{"relay":1,"ms":true}', '{"relay":1,"ms":null}', '{"relay":0,"ms":5}',
@@ -358,7 +358,7 @@ class Case(unittest.TestCase):
 
     def test_second_deck(self):
         """M-102: the second deck is shown as far as its modules are there, with the states that its relays have, whoever switched them."""
-        with Boxd("--quiet") as host, Panel(host.port) as panel, Client(host.port) as client:
+        with Boxd() as host, Panel(host.port) as panel, Client(host.port) as client:
             self.assertEqual(panel.wait_until(answers)["deck"], [])
             host.tell("filled 2")
             host.wait_for("place 2 is filled")
@@ -384,7 +384,7 @@ class Case(unittest.TestCase):
 
     def test_absent_relays(self):
         """M-102: a relay whose module is not there is not even asked for; where the module goes just then, the box refuses it, and the panel says so."""
-        with Boxd("--quiet") as host, Panel(host.port) as panel:
+        with Boxd() as host, Panel(host.port) as panel:
             panel.wait_until(answers)
             self.assertEqual(self.module(host, panel, "filled 1"), shown_open(9, 10, 11, 12))
             count = host.count("commanded")
@@ -403,12 +403,12 @@ class Case(unittest.TestCase):
 
     def test_other_deck_after_a_loss(self):
         """M-102: after the box was gone, the deck is that of the box as it is now."""
-        with Boxd("--quiet") as host, Panel(host.port) as panel:
+        with Boxd() as host, Panel(host.port) as panel:
             host.tell("filled 1")
             panel.wait_until(lambda s: deck(s) == shown_open(9, 10, 11, 12))
             host.process.kill()
             panel.wait_until(lambda s: not s["answers"])
-            with Boxd("--quiet", port=host.port) as again:
+            with Boxd(port=host.port) as again:
                 again.tell("filled 2")
                 panel.wait_until(lambda s: s["answers"] and deck(s) == shown_open(13, 14, 15, 16))
                 again.quit()
@@ -485,7 +485,7 @@ class Case(unittest.TestCase):
 
     def test_last_refused(self):
         """M-105: the last message that the box refused, whoever sent it, stands on the panel in words; none after power-up."""
-        with Boxd("--quiet") as host, Panel(host.port) as panel:
+        with Boxd() as host, Panel(host.port) as panel:
             panel.wait_until(answers)
             with Client(host.port) as client:
                 client.clock()
@@ -508,7 +508,7 @@ class Case(unittest.TestCase):
             panel.wait_until(lambda s: re.search(r", [1-9]\d* (s|min) ago$", s["refused"]))
             host.process.kill()
             panel.wait_until(lambda s: not s["answers"])
-            with Boxd("--quiet", port=host.port) as again:
+            with Boxd(port=host.port) as again:
                 panel.wait_until(lambda s: s["answers"] and s["refused"] == "")
                 again.quit()
 
@@ -521,7 +521,7 @@ class Case(unittest.TestCase):
             users = os.path.join(folder, "users")
             with open(users, "w", encoding="ascii") as file:
                 file.write(adduser.line("anna", 1, b"salmon", 1000) + "\n")
-            with Boxd("--quiet", "--users", users) as host, Panel(host.port, "--user", "anna", secret="salmon") as panel:
+            with Boxd("--users", users) as host, Panel(host.port, "--user", "anna", secret="salmon") as panel:
                 self.assertEqual(panel.wait_until(answers)["refused"], "")
                 with Client(host.port) as nobody:
                     nobody.send(frame(b"\x07"))
@@ -560,7 +560,7 @@ class Case(unittest.TestCase):
 
     def test_other_sites_press_nothing(self):
         """A request under another name, or a command from another page, is refused."""
-        with Boxd("--quiet") as host, Panel(host.port) as panel:
+        with Boxd() as host, Panel(host.port) as panel:
             panel.wait_until(answers)
             own = f"127.0.0.1:{panel.port}"
             for headers in ({"Origin": "http://evil.example"}, {"Origin": None}, {"Origin": "null"}, {"Origin": "https://" + own},
@@ -582,7 +582,7 @@ class Case(unittest.TestCase):
 
     def test_page(self):
         """One page, with nothing from elsewhere; its events bring the state."""
-        with Boxd("--quiet") as host, Panel(host.port) as panel:
+        with Boxd() as host, Panel(host.port) as panel:
             status, headers, body = panel.ask("GET", "/")
             self.assertEqual(status, 200)
             self.assertNotIn("http:", body.replace("http://www.w3.org/2000/svg", ""))          # a name, which nothing is fetched by
@@ -609,7 +609,7 @@ class Case(unittest.TestCase):
 
     def test_box_gone_and_back(self):
         """When the box is gone the panel says so, since when and what to check; a button then fails; it finds the box again by itself."""
-        with Boxd("--quiet") as host, Panel(host.port) as panel:
+        with Boxd() as host, Panel(host.port) as panel:
             first = panel.wait_until(answers)
             host.process.kill()
             gone = panel.wait_until(lambda s: not s["answers"])
@@ -621,7 +621,7 @@ class Case(unittest.TestCase):
             status, _, said = panel.pulse(1, 5)
             self.assertEqual(status, 502)
             self.assertIn("did not tell whether it took the pulse of relay 1", said)
-            with Boxd("--quiet", port=host.port) as again:
+            with Boxd(port=host.port) as again:
                 back = panel.wait_until(answers)
                 self.assertGreaterEqual(back["since"], gone["since"])
                 self.assertEqual(panel.press(1, True)[0], 200)
@@ -629,7 +629,7 @@ class Case(unittest.TestCase):
 
     def test_fifth_connection(self):
         """When all four connections are in use, the panel says what the box told it."""
-        with Boxd("--quiet") as host:
+        with Boxd() as host:
             four = [Client(host.port) for _ in range(4)]
             for client in four:
                 client.clock()
@@ -647,7 +647,7 @@ class Case(unittest.TestCase):
             users = os.path.join(folder, "users")
             with open(users, "w", encoding="ascii") as file:
                 file.write(adduser.line("anna", 1, b"salmon", 1000) + "\n")
-            with Boxd("--quiet", "--users", users) as host, Panel(host.port, "--user", "anna", secret="salmon") as panel, \
+            with Boxd("--users", users) as host, Panel(host.port, "--user", "anna", secret="salmon") as panel, \
                     Panel(host.port) as nobody, Panel(host.port, "--user", "anna", secret="trout") as wrong:
                 panel.wait_until(answers)
                 self.assertEqual(panel.press(3, True)[0], 200)
@@ -665,7 +665,7 @@ class Case(unittest.TestCase):
             users = os.path.join(folder, "users")
             with open(users, "w", encoding="ascii") as file:
                 file.write(adduser.line("anna", 1, b"salmon", 1000, strict=True) + "\n")
-            with Boxd("--quiet", "--strict", "--users", users) as host, Panel(host.port, "--user", "anna", secret="salmon") as panel:
+            with Boxd("--strict", "--users", users) as host, Panel(host.port, "--user", "anna", secret="salmon") as panel:
                 panel.wait_until(answers)
                 self.assertEqual(panel.press(3, True)[0], 200)
                 self.assertEqual(panel.pulse(5, 20)[::2], (200, "The pulse of relay 5, 20 ms, has begun.\n"))
@@ -782,7 +782,7 @@ class Case(unittest.TestCase):
         def counted(panel):
             return [sum(n or 0 for n in row) for row in json.loads(panel.ask("GET", "/day")[2])["quarters"]]
 
-        with tempfile.TemporaryDirectory() as folder, Boxd("--quiet") as host:
+        with tempfile.TemporaryDirectory() as folder, Boxd() as host:
             words = ("--day", os.path.join(folder, "day"))
             with Panel(host.port, *words) as panel:
                 panel.wait_until(answers)
@@ -804,7 +804,7 @@ class Case(unittest.TestCase):
         not set the clock.
         """
         with tempfile.TemporaryDirectory() as folder:
-            with Boxd("--quiet", "--users", self.users(folder)) as host, \
+            with Boxd("--users", self.users(folder)) as host, \
                     Panel(host.port, "--open", "--user", "olav", "--host-name", "Barge.example", secret="cod",
                           listen=("--listen", "0.0.0.0:0")) as panel:
                 self.shut_out(panel, None)
@@ -861,7 +861,7 @@ class Case(unittest.TestCase):
 
     def test_box_without_users_beyond_this_machine(self):
         """Where the box lets everybody in, the panel does not listen beyond this machine, unless it is told to with --open."""
-        with Boxd("--quiet") as host:
+        with Boxd() as host:
             box = ("--box", f"127.0.0.1:{host.port}", "--listen", "0.0.0.0:0")
             said = self.started(*box)
             self.assertIn("the box asks for no login", said)
@@ -882,7 +882,7 @@ class Case(unittest.TestCase):
             status, _, said = panel.log_in("anna", "x")
             self.assertEqual(status, 502)
             self.assertIn("The box could not be asked", said)
-            with Boxd("--quiet", port=port) as host:
+            with Boxd(port=port) as host:
                 status, _, said = panel.log_in("anna", "x")
                 self.assertEqual(status, 403)
                 self.assertIn("The box asks for no login now", said)
@@ -997,7 +997,7 @@ class Case(unittest.TestCase):
 
     def test_start_and_end(self):
         """SIGTERM ends it cleanly; a port in use says which option chooses another; it starts through a link, from anywhere."""
-        with Boxd("--quiet") as host, Panel(host.port) as panel, tempfile.TemporaryDirectory() as folder:
+        with Boxd() as host, Panel(host.port) as panel, tempfile.TemporaryDirectory() as folder:
             busy = str(panel.port)
             for more, said in ((("--port", busy), "choose another port with --port PORT"),
                                (("--port", busy, "--advice=--panel-port PORT"), "choose another port with --panel-port PORT"),
