@@ -77,6 +77,7 @@ typedef struct {
     uint64_t accept_after;      /* ms */
     int listener;
     bool failed;                /* the box ends because it cannot go on */
+    bool hung_up;               /* it ends because its terminal is gone */
 } host;
 
 static int signal_pipe[2];
@@ -477,13 +478,14 @@ static void watch_all(const host *h, struct pollfd polled[POLLED])
 
 /* ---- A turn */
 
-/* SIGHUP: the log has been put away under another name. False: a signal that ends the box. */
-static bool read_signals(void)
+/* SIGHUP with a log file: it has been put away under another name. False: a signal that ends the box. */
+static bool read_signals(host *h)
 {
     char some[16];
     ssize_t n = read(signal_pipe[0], some, sizeof some);
     for (ssize_t i = 0; i < n; i++) {
-        if (some[i] != SIGHUP) {
+        if (some[i] != SIGHUP || h->options.log == NULL) {
+            h->hung_up = some[i] == SIGHUP;
             return false;
         }
         say_open_anew();
@@ -553,7 +555,7 @@ static bool turn(host *h)
         memset(polled, 0, sizeof polled);       /* a signal: the pipe tells the next poll */
     }
     tell_time(h);
-    if ((polled[AT_SIGNAL].revents != 0 && !read_signals()) || (polled[AT_COMMANDS].revents != 0 && !read_commands(h))) {
+    if ((polled[AT_SIGNAL].revents != 0 && !read_signals(h)) || (polled[AT_COMMANDS].revents != 0 && !read_commands(h))) {
         return false;
     }
     turn_inputs(h, polled);
@@ -579,18 +581,25 @@ static void pass_on(int number)
     errno = kept;
 }
 
-/* Without a log file SIGHUP ends the box as ever: its terminal is gone. A file that has grown too large is an error of its writing, no signal. */
+/* Whoever started the box with SIGHUP ignored (nohup) means it to outlive its terminal. */
+static bool outlives_terminal(const options *o)
+{
+    struct sigaction before;
+    return o->log == NULL && sigaction(SIGHUP, NULL, &before) == 0 && before.sa_handler == SIG_IGN;
+}
+
+/* A file that has grown too large is an error of its writing, no signal. */
 static bool catch_signals(const options *o)
 {
-    const int ended[] = {SIGINT, SIGTERM, SIGHUP}, ignored[] = {SIGPIPE, SIGXFSZ};
+    const int caught[] = {SIGINT, SIGTERM, SIGHUP}, ignored[] = {SIGPIPE, SIGXFSZ};
     struct sigaction passed_on = {.sa_handler = pass_on}, nothing = {.sa_handler = SIG_IGN};
     bool good = pipe(signal_pipe) == 0;
     for (int end = 0; end < 2 && good; end++) {
         good = fcntl(signal_pipe[end], F_SETFL, O_NONBLOCK) == 0 && fcntl(signal_pipe[end], F_SETFD, FD_CLOEXEC) == 0;
         good = good && sigaction(ignored[end], &nothing, NULL) == 0;
     }
-    for (int i = 0; i < (o->log != NULL ? 3 : 2) && good; i++) {
-        good = sigaction(ended[i], &passed_on, NULL) == 0;
+    for (int i = 0; i < (outlives_terminal(o) ? 2 : 3) && good; i++) {
+        good = sigaction(caught[i], &passed_on, NULL) == 0;
     }
     return good;
 }
@@ -763,5 +772,9 @@ int main(int argc, char **argv)
     while (turn(&h)) {
     }
     end(&h);
+    if (h.hung_up) {            /* it has ended in order, and says all the same by what */
+        signal(SIGHUP, SIG_DFL);
+        raise(SIGHUP);
+    }
     return h.failed ? EXIT_FAILURE : EXIT_SUCCESS;
 }

@@ -264,7 +264,7 @@ class Log(WithUsers):
         return program
 
     def test_file_is_opened_anew(self):
-        """After SIGHUP it goes on in a file of the old name; without --log SIGHUP ends the box."""
+        """After SIGHUP it goes on in a file of the old name."""
         log = os.path.join(self.folder.name, "log")
         with self.start(log) as program:
             program.tell("level 1 1")
@@ -279,9 +279,18 @@ class Log(WithUsers):
             self.assertIn("input 2 is on: 1 counted", read(log))
             self.assertIn("the box has ended", read(log))
             self.assertEqual(program.lines, [])
+
+    def test_hang_up_without_a_file(self):
+        """It ends in order, by that signal; where it was started with it ignored, it goes on."""
         with Boxd() as host:
             host.process.send_signal(signal.SIGHUP)
-            self.assertNotEqual(host.ended(), 0)
+            self.assertEqual(host.ended(), -signal.SIGHUP)
+            self.assertTrue(host.find("the box has ended"))
+        with Program(["nohup", EXEC, PROGRAM, "--listen", "127.0.0.1:0"]) as program:
+            program.wait_for("listens on")
+            program.process.send_signal(signal.SIGHUP)
+            program.tell("quit")
+            self.assertEqual(program.ended(), 0)
 
     def test_log_is_added_to(self):
         log = os.path.join(self.folder.name, "log")
