@@ -1058,6 +1058,30 @@ static void try_short_row(unsigned standing)
             WELLACORN_NO_CONNECTION, 0, 0);
 }
 
+/* All that is tried on one connection. */
+static void try_connection(uint8_t c)
+{
+    for (unsigned filled = NO_MODULE; filled <= BOTH_MODULES; filled++) {
+        for (uint8_t k = 1; k <= WELLACORN_CHANNELS; k++) {
+            try_level(k, c, filled);
+        }
+        try_relays(c, filled);
+        try_connects(c, filled);
+        try_request(c, filled);
+    }
+    try_close(c);
+    try_monitor(c);
+    try_collects(c);
+    try_strict(c);
+    try_places(c);
+    try_half(c);
+    try_room(c);
+    try_done(c);
+    try_refusals(c);
+    try_long_places(c);
+    try_no_content(c);
+}
+
 int main(void)
 {
     setvbuf(stdout, NULL, _IOLBF, 0);   /* what differs is seen even if a later call ends badly because of it */
@@ -1066,25 +1090,7 @@ int main(void)
         try_pass(k);
     }
     for (uint8_t c = 0; c < WELLACORN_CONNECTIONS; c++) {
-        for (unsigned filled = NO_MODULE; filled <= BOTH_MODULES; filled++) {
-            for (uint8_t k = 1; k <= WELLACORN_CHANNELS; k++) {
-                try_level(k, c, filled);
-            }
-            try_relays(c, filled);
-            try_connects(c, filled);
-            try_request(c, filled);
-        }
-        try_close(c);
-        try_monitor(c);
-        try_collects(c);
-        try_strict(c);
-        try_places(c);
-        try_half(c);
-        try_room(c);
-        try_done(c);
-        try_refusals(c);
-        try_long_places(c);
-        try_no_content(c);
+        try_connection(c);
     }
     for (unsigned c = WELLACORN_CONNECTIONS; c <= UINT8_MAX; c++) {
         try_content_of_none((uint8_t)c);
