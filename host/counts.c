@@ -140,14 +140,10 @@ static int save(const char *path, const uint64_t values[WELLACORN_CHANNELS])
     return rename(fresh, path) != 0 ? errno : sync_folder(path);
 }
 
-/* It ends when the host does: signals that end the host are the host's, which still has the last counts to give. */
+/* It ends when the host does. */
 static void be_saver(const char *path, int in, int out)
 {
-    const struct sigaction ignored = {.sa_handler = SIG_IGN};
     uint64_t values[WELLACORN_CHANNELS];
-    sigaction(SIGTERM, &ignored, NULL);
-    sigaction(SIGINT, &ignored, NULL);
-    sigaction(SIGHUP, &ignored, NULL);
     for (int fd = 0; fd < OPEN_FILES; fd++) {
         if (fd != in && fd != out) {
             close(fd);
@@ -162,15 +158,29 @@ static void be_saver(const char *path, int in, int out)
     _exit(0);
 }
 
+/* A saver, or -1. Signals that end the host are blocked in it from its first moment on: a service is ended by a signal to all of its processes, and
+ * the host still has the last counts to give. */
+static pid_t fork_saver(const char *path, int in, int out)
+{
+    sigset_t ending, before;
+    sigemptyset(&ending);
+    sigaddset(&ending, SIGTERM);
+    sigaddset(&ending, SIGINT);
+    sigaddset(&ending, SIGHUP);
+    sigprocmask(SIG_BLOCK, &ending, &before);
+    pid_t pid = fork();
+    if (pid == 0) {
+        be_saver(path, in, out);
+    }
+    sigprocmask(SIG_SETMASK, &before, NULL);
+    return pid;
+}
+
 static bool start_saver(counts *k)
 {
     int to[2] = {-1, -1}, back[2] = {-1, -1};
-    if (pipe(to) == 0 && pipe(back) == 0) {
-        k->pid = fork();
-        if (k->pid == 0) {
-            be_saver(k->path, to[0], back[1]);
-        }
-    }
+    bool piped = pipe(to) == 0 && pipe(back) == 0;
+    k->pid = piped ? fork_saver(k->path, to[0], back[1]) : -1;
     close(to[0]);
     close(back[1]);
     k->to = to[1];
