@@ -114,7 +114,8 @@ static void become(const char *command, int in, int out)
 {
     struct sigaction usual = {.sa_handler = SIG_DFL};
     setpgid(0, 0);
-    sigaction(SIGPIPE, &usual, NULL);
+    sigaction(SIGPIPE, &usual, NULL);       /* what the host ignores */
+    sigaction(SIGXFSZ, &usual, NULL);
     dup2(in, STDIN_FILENO);
     dup2(out, STDOUT_FILENO);
     execl("/bin/sh", "sh", "-c", command, (char *)NULL);
@@ -256,6 +257,14 @@ bool io_begin(io *i, const char *command, const char *path)
     return path == NULL || open_door(i);
 }
 
+/* A command may tell the inputs and not care for the relays: it has closed its standard input, and still runs. */
+static void tells_only(io *i)
+{
+    say("the command of --io takes no lines any more: it is not told of relays until it is started again");
+    close(i->out);
+    i->out = -1;
+}
+
 /* Writes what it takes now. False where it takes nothing any more. */
 static bool write_lines(io *i)
 {
@@ -275,8 +284,11 @@ void io_turn(io *i, box *b, uint64_t now, bool reads, bool knocks)
         commands_read(&i->commands, b, NULL);
     }
     io_relays(i, b);
-    if (i->in >= 0 && (!write_lines(i) || i->commands.over)) {
+    bool takes = write_lines(i);
+    if (i->in >= 0 && (i->commands.over || (!takes && i->pid == 0))) {
         goes(i, now);
+    } else if (!takes) {
+        tells_only(i);
     }
     if (i->pid > 0 && i->in < 0) {
         await_end(i, now);

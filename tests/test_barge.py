@@ -418,6 +418,21 @@ class Inputs(Case):
             self.assertEqual(self.relays(out)[:16], [f"relay {k} 0" for k in range(1, 9)] * 2)
             host.quit()
 
+    def test_command_that_only_tells(self):
+        """It has closed its input, and its levels count all the same; it is not taken for one that has ended."""
+        fifo = self.file("levels")
+        os.mkfifo(fifo)
+        with Boxd("--io", f"exec <&-; exec cat {fifo}") as host, open(fifo, "w", encoding="ascii") as levels, Client(host.port) as client:
+            client.send(command(1, 1))
+            host.wait_for("the command of --io takes no lines any more")
+            levels.write("level 6 1\n")
+            levels.flush()
+            host.wait_for("input 6 is on: 1 counted")
+            client.send(command(1, 2))
+            client.clock()
+            self.assertEqual(host.count("--io"), 1)
+            host.quit()
+
     def test_command_ends_with_the_box(self):
         """It is asked to, and may clean up; where it does not look at its input and ignores the signal it is ended by force, with its children."""
         mark = self.file("asked")
