@@ -680,6 +680,10 @@ if PROGRAM == "boxd":
         UntilTheMinuteIsOver.client = Client(UntilTheMinuteIsOver.host.port)
         UntilTheMinuteIsOver.client.send(BAD * 1000)
 
+    def tearDownModule():
+        UntilTheMinuteIsOver.client.close()
+        UntilTheMinuteIsOver.host.__exit__()            # where other tests were asked for
+
     class UntilTheMinuteIsOver(Case):
         def test_left_out(self):
             """The line that says how many were left out comes with the minute's end, though nothing else happens; then all are told again."""
