@@ -325,7 +325,9 @@ static bool is_finished(const host *h, uint8_t c)
 /* The client has hung up with a wrong password as its last word, and nobody has logged in: its refusal is not held back for an empty place. */
 static bool is_given_up(const host *h, uint8_t c)
 {
-    return h->lines[c].ended && !h->quiet[c].known && h->logins[c].stage == LOGIN_HELD;
+    const uint8_t *bytes;
+    const line *l = &h->lines[c];
+    return l->ended && line_untaken(l, &bytes) == 0 && !h->quiet[c].known && h->logins[c].stage == LOGIN_HELD;
 }
 
 static void turn_line(host *h, uint8_t c)

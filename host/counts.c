@@ -176,16 +176,28 @@ static pid_t fork_saver(const char *path, int in, int out)
     return pid;
 }
 
+/* There is no saver any more. */
+static void leave_saver(counts *k)
+{
+    close(k->to);
+    close(k->back);
+    k->to = k->back = -1;
+    k->pid = 0;
+}
+
 static bool start_saver(counts *k)
 {
     int to[2] = {-1, -1}, back[2] = {-1, -1};
     bool piped = pipe(to) == 0 && pipe(back) == 0;
     k->pid = piped ? fork_saver(k->path, to[0], back[1]) : -1;
+    int why = errno;
     close(to[0]);
     close(back[1]);
     k->to = to[1];
     k->back = back[0];
     if (k->pid <= 0) {
+        leave_saver(k);
+        errno = why;
         return false;
     }
     return fcntl(k->to, F_SETFD, FD_CLOEXEC) == 0 && fcntl(k->back, F_SETFD, FD_CLOEXEC) == 0;
@@ -261,13 +273,16 @@ static bool has_changed(const counts *k, const box *b)
     return false;
 }
 
-/* What is given fits into a pipe that is empty, so this does not wait. */
+/* What is given fits into a pipe that is empty, so this does not wait. Where there was no room for a saver, there may be now. */
 static void give(counts *k, const box *b, uint64_t now)
 {
+    k->not_before = now + PAUSE;
+    if (k->pid == 0 && !start_saver(k)) {
+        return;
+    }
     for (int i = 0; i < WELLACORN_CHANNELS; i++) {
         k->given[i] = b->lent.board.inputs[i].count;
     }
-    k->not_before = now + PAUSE;
     k->busy = write(k->to, k->given, sizeof k->given) == (ssize_t)sizeof k->given;
 }
 
@@ -281,14 +296,13 @@ static void tell_how_it_went(counts *k, int why)
     k->failing = why != 0;
 }
 
-/* The saver has ended by itself: somebody has ended it. Another is started in its place. */
-static void replace_saver(counts *k)
+/* The saver has ended by itself: somebody has ended it. Another is started in its place when there is something to give. */
+static void lose_saver(counts *k)
 {
+    pid_t pid = k->pid;
     tell_how_it_went(k, EPIPE);
-    close(k->to);
-    close(k->back);
-    waitpid(k->pid, NULL, 0);
-    start_saver(k);
+    leave_saver(k);
+    waitpid(pid, NULL, 0);
 }
 
 static void hear_saver(counts *k)
@@ -297,7 +311,7 @@ static void hear_saver(counts *k)
     ssize_t n = read(k->back, &why, sizeof why);
     k->busy = false;
     if (n != (ssize_t)sizeof why) {
-        replace_saver(k);
+        lose_saver(k);
         return;
     }
     tell_how_it_went(k, why);
@@ -346,6 +360,5 @@ void counts_end(counts *k, const box *b)
     if (has_changed(k, b)) {
         say("the last counts could not be saved to %s", k->path);
     }
-    close(k->to);
-    close(k->back);
+    leave_saver(k);
 }

@@ -195,6 +195,15 @@ class QuietLines(WithUsers):
             self.assertEqual(host.count("login of nils refused"), 2)
             host.quit()
 
+    def test_what_was_sent_behind_a_wrong_login(self):
+        """It is served though the client has hung up: a right login, and what it may ask then."""
+        with Boxd("--users", self.users) as host, Client(host.port) as client:
+            client.send(login(b"eve", b"wrong") + login(b"olav", b"right") + CLOCK)
+            client.finish()
+            self.assertEqual([content for content in client.contents() if content[0] == 125], [b"\x7D\xFF", b"\x7D\x80"])
+            self.assertEqual([content[0] for content in client.contents()].count(6), 1)
+            host.quit()
+
     def test_dead_link(self):
         """A client that acknowledges nothing new, because it does not read, is ended by the system after --link-time; the others notice nothing."""
         with Boxd("--link-time", "2") as host, Client(host.port) as good, Client(host.port, small=True) as dead:
