@@ -1,8 +1,10 @@
 // The console: lines of hexadecimal in, two digits of the answer and four of the relays a line out. Each line is one piece for connection 0,
 // which is open at rank 2.
 // `main` lends the board, the half-read messages (halves), their content (rooms), the line that has not ended and the reply buffer.
-// It alone knows lines; their digits are the crate hexadecimal's. `main`, `read_all`, `read_on` and `write_out` read and write and do nothing
-// else; every other function is on slices and numbers, and its contract says all that it answers and leaves.
+// It alone knows lines; their digits are the crate hexadecimal's. `main`, `read_all`, `read_on`, `read_in` and `write_out` read and write and do
+// nothing else; every other function is on slices and numbers, and its contract says all that it answers and leaves.
+
+#![tactic(auto)]
 
 ghost use Rattle.std.specs.Prelude.{◌≡◌, cond, ◌+◌, ◌≤◌, min, ltb, length, set, take};
 ghost use Rattle.laws.specs.Put.{Wrote};
@@ -11,13 +13,13 @@ ghost use Rattle.console.specs.Lines.{started, started_halves, line_call, line_h
 ghost use Rattle.console.specs.Console.{held_of, line_held, ended, step, says, run, said, at_end, said_at_end, every_read, reads_left, Spent};
 
 use hexadecimal::Parsed;
-use libc::{STDIN_FILENO, STDOUT_FILENO};
 use pieces::Done;
 use powerup::{InputSettings, Settings};
 use rows::ROWS;
+use std::io::{Read, Write};
 
 // What is held by value between two bytes of the input: used characters of the line that has not ended, len bytes of output so far.
-#[derive(Drop)]
+#[derive(Clone, Copy)]
 struct Console {
     used: usize,
     len: usize,
@@ -100,7 +102,7 @@ fn end_line(
     out: &mut [u8],
 ) -> Console
     requires { s.len + 7 ≤ length out.old }
-    ensures reply_after { held_of result board.new halves.new rooms.new line.now reply.new
+    ensures held_after { held_of result board.new halves.new rooms.new line.now reply.new
         ≡ ended (held_of s board.old halves.old rooms.old line.now reply.old) }
     ensures wrote { Wrote s.len
         (shown (line_held (held_of s board.old halves.old rooms.old line.now reply.old)))
@@ -140,7 +142,7 @@ fn take_byte(
     byte: u8,
 ) -> Console
     requires { s.len + 7 ≤ length out.old }
-    ensures reply_after { held_of result board.new halves.new rooms.new line.new reply.new
+    ensures held_after { held_of result board.new halves.new rooms.new line.new reply.new
         ≡ step (held_of s board.old halves.old rooms.old line.old reply.old) byte }
     ensures wrote { Wrote s.len
         (says (held_of s board.old halves.old rooms.old line.old reply.old) byte)
@@ -173,7 +175,7 @@ fn take_read(
     input: &[u8],
     out: &mut [u8; 28672],
 ) -> Console
-    ensures reply_after { held_of result board.new halves.new rooms.new line.new reply.new
+    ensures held_after { held_of result board.new halves.new rooms.new line.new reply.new
         ≡ run (held_of s board.old halves.old rooms.old line.old reply.old)
         (take 4096 input.now) }
     ensures wrote { Wrote 0
@@ -202,7 +204,7 @@ fn take_end(
     reply: &mut [u8; 4096],
     out: &mut [u8; 7],
 ) -> Console
-    ensures reply_after { held_of result board.new halves.new rooms.new line.now reply.new
+    ensures held_after { held_of result board.new halves.new rooms.new line.now reply.new
         ≡ at_end (held_of s board.old halves.old rooms.old line.now reply.old) }
     ensures wrote { Wrote 0 (said_at_end (held_of s board.old halves.old rooms.old line.now reply.old))
         out.old out.new result.len }
@@ -217,9 +219,17 @@ fn take_end(
 
 // ---- reading and writing
 
-fn write_out(out: &[u8], n: usize) -> bool {
+// How many bytes one read of standard input brought; one that fails brings none.
+fn read_in(rt: &HostRuntime, input: &mut [u8; 4096]) -> usize
+    ensures { result ≤ 4096 }
+{
+    rt.stdin().read(input).unwrap_or(0)
+}
+
+// Whether the first n bytes could be written.
+fn write_out(rt: &HostRuntime, out: &[u8], n: usize) -> bool {
     if n <= out.len() {
-        return io::write_all(STDOUT_FILENO, &out[..n]);
+        return rt.stdout().write_all(&out[..n]).is_ok();
     }
     false
 }
@@ -233,6 +243,7 @@ fn every_read() -> u64
 
 // How many reads are left behind one that brought so many bytes: none where it brought none, which ends the input, or where its answers could
 // not be written.
+#[tactic(auto, unfolding(crate::specs::Console::reads_left))]
 fn reads_left(left: u64, brought: usize, written: bool) -> u64
     ensures { result ≡ reads_left left brought written }
 {
@@ -249,14 +260,16 @@ fn reads_left(left: u64, brought: usize, written: bool) -> u64
 }
 
 // What a read leaves: the console, and how many reads may follow.
-#[derive(Drop)]
+#[derive(Clone, Copy)]
 struct Turn {
     console: Console,
     left: u64,
 }
 
 // One read, and the answers to the lines that end in it. A read that brings nothing has no answers.
+#[tactic(auto, unfolding(crate::specs::Console::reads_left, crate::specs::Console::Spent))]
 fn read_on(
+    rt: &HostRuntime,
     s: Console,
     left: u64,
     board: &mut [[u64; 8]; ROWS],
@@ -268,16 +281,17 @@ fn read_on(
     ensures { Spent left result.left }
 {
     let mut input = [0u8; 4096];
-    let got = libc::read(STDIN_FILENO, &mut input);
-    let n = io::count(got, &input);
+    let n = read_in(rt, &mut input);
     let mut out = [0u8; 28672];
     let console = take_read(s, board, halves, rooms, line, reply, &input[..n], &mut out);
-    let written = write_out(&out, console.len);
+    let written = write_out(rt, &out, console.len);
     let left = reads_left(left, n, written);
     Turn { console, left }
 }
 
+#[tactic(auto, unfolding(crate::specs::Console::Spent))]
 fn read_all(
+    rt: &HostRuntime,
     s: Console,
     board: &mut [[u64; 8]; ROWS],
     halves: &mut [[u64; 3]; 4],
@@ -294,12 +308,12 @@ fn read_all(
     while 0 < turn.left {
         let console = turn.console;
         let left = turn.left;
-        turn = read_on(console, left, board, halves, rooms, line, reply);
+        turn = read_on(rt, console, left, board, halves, rooms, line, reply);
     }
     turn
 }
 
-fn main() {
+fn main(rt: HostRuntime) {
     let mut board = [[0u64; 8]; ROWS];
     let mut halves = [[0u64; 3]; 4];
     let mut rooms = [0u8; 4096];
@@ -308,6 +322,7 @@ fn main() {
     start(&mut board, &mut halves);
     let begun = Console { used: 0, len: 0 };
     let turn = read_all(
+        &rt,
         begun,
         &mut board,
         &mut halves,
@@ -326,5 +341,5 @@ fn main() {
         &mut reply,
         &mut out,
     );
-    write_out(&out, last.len);
+    write_out(&rt, &out, last.len);
 }
