@@ -1,12 +1,14 @@
 // What a call of the plain machine gives back: an answer number, its place and a reply's length; and a reply sealed, with its header before it.
 // It knows no event and no message. It takes every number and every buffer.
 
+#![tactic(auto)]
+
 ghost use Rattle.std.specs.Prelude.{◌≡◌};
 ghost use Rattle.answers.specs.Calls.{served_at, served_of, sealed_reply, sealed_served};
 
 // What an event or a message came to; len bytes of the reply buffer are the reply. The place is that of the first byte of a content that is
 // missing or left over, where that is why it is refused, else 0.
-#[derive(Drop)]
+#[derive(Clone, Copy)]
 pub struct Served {
     pub answer: u8,
     pub place: usize,

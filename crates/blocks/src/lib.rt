@@ -1,6 +1,8 @@
 // Relays that take their states by a mask, on both decks: action 10, a pulse's beginning and end, a module that comes or is pulled. It takes
 // every board and every mask.
 
+#![tactic(auto)]
+
 ghost use Rattle.std.specs.Prelude.{◌≡◌, ◌||◌, cond, ◌+◌, ◌≤◌};
 ghost use Rattle.laws.specs.Each.{any_below};
 ghost use Rattle.records.specs.Held.{switched};
@@ -13,6 +15,7 @@ use modules::Moved;
 use rows::ROWS;
 
 // Relay k takes a state if it is chosen; whether that changed it.
+#[tactic(auto, using(changes::proofs::Making::differ_same), unfolding(crate::specs::Blocks::masked))]
 fn mask_relay(board: &mut [[u64; 8]; ROWS], k: usize, chosen: bool, state: bool) -> bool
     ensures board_after { board.new
         ≡ cond chosen (put_relay k (switched state (relay_at k board.old)) board.old) board.old }

@@ -4,7 +4,7 @@ use mathlib.Core.List.{map}
 use Rattle.changes.specs.Commands.{on_present}
 use Rattle.answers.specs.Calls.{frames_of}
 use Rattle.modules.specs.Modules.{filled, moved_at, present}
-use Rattle.laws.specs.Put.{put, rows}
+use Rattle.laws.specs.Put.{put}
 use Rattle.words.specs.Words.{fits, number_at}
 use Rattle.steps.specs.Steps.{step_of, first_of, after_of}
 use Rattle.framing.specs.Reading.{room_of, run_of}
@@ -15,7 +15,6 @@ use Rattle.orders.specs.Entries.{entries_length}
 use Rattle.judges.specs.Judges.{of_reach, in_range, if_sized, if_listed, sized_request, request_known, judge_request, on_channel, action_known}
 use Rattle.judges.specs.Judges.{judge_set_clock, if_lasting, judge_pulse, judge_command, judge_read, judge_write, judge_enumerate}
 use Rattle.orders.specs.Orders.{request_of, set_clock_of, enumerate_of, command_of, read_of, write_of, order_of}
-use Rattle.readings.specs.Readings as readings
 use Rattle.connections.specs.Lines.{opened_line, connected}
 use Rattle.marks.specs.Marks.{marked}
 use Rattle.serving.specs.Obeying.{obeyed, follows_it}

@@ -17,8 +17,10 @@ use Rattle.board.specs.Calls.{pass_call, passed_in}
 -- how the loop's test came out, whose result y is the time's
 pub going_on : (y b : Bool) → T y → y ≡ b → b ≡ true
 going_on true b h e = sym e
+going_on false b h e = elim h [ ]
 
 pub over : (y b : Bool) → T (not y) → y ≡ b → b ≡ false
+over true b h e = elim h [ ]
 over false b h e = sym e
 
 -- the two places are read, the pulses there are looked up, and with them the time turns

@@ -2,6 +2,8 @@
 // Board, halves and rooms go as pointers, a slice as pointer and length, settings and what a call came to by value. The lent row of pulses is
 // seen here and in the crate lent alone: what the board needs of it goes by value. Where no row is lent the contract is the board's own.
 
+#![tactic(auto)]
+
 ghost use Rattle.std.specs.Prelude.{◌≡◌, length};
 ghost use Rattle.ring.specs.Ring.{row_after};
 ghost use Rattle.powerup.specs.PowerUp.{powered_up};

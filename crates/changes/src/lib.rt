@@ -1,6 +1,8 @@
 // The changes of the lent board: what a level, a command and an entry of a WriteDevices message do to it. It alone tells a change from
 // none. It takes every board and every number.
 
+#![tactic(auto)]
+
 ghost use Rattle.std.specs.Prelude.{◌≡◌};
 ghost use Rattle.edits.specs.Edits.{input_edited, relay_edited};
 ghost use Rattle.changes.specs.Answers.{Makes, no_change, same_again, differ, on_input, on_relay};
@@ -13,7 +15,7 @@ use modules::Moved;
 use rows::ROWS;
 
 // 01's answer number, and what really changed: a level or a relay's state, on which deck.
-#[derive(Drop)]
+#[derive(Clone, Copy)]
 pub struct Changed {
     pub answer: u8,
     pub changed: Moved,
@@ -46,6 +48,7 @@ fn unchanged() -> Changed
 }
 
 // Every edit of one input is made here: the channel is judged, and a change told from none.
+#[tactic(auto, unfolding(crate::specs::Answers::on_input))]
 fn edit_input(board: &mut [[u64; 8]; ROWS], channel: u16, edit: InputEdit) -> Changed
     ensures { Makes (on_input (input_edited edit) channel board.old) board.new result }
 {
@@ -66,6 +69,7 @@ fn edit_input(board: &mut [[u64; 8]; ROWS], channel: u16, edit: InputEdit) -> Ch
 }
 
 // Every edit of one relay, in the same way; whether it may be edited is told.
+#[tactic(auto, unfolding(crate::specs::Answers::on_relay))]
 fn edit_relay(board: &mut [[u64; 8]; ROWS], there: bool, channel: u16, edit: RelayEdit) -> Changed
     ensures { Makes (on_relay there (relay_edited edit) channel board.old) board.new result }
 {
@@ -92,6 +96,7 @@ fn has_level(board: &[[u64; 8]; ROWS], input: u8, on: bool) -> bool
 }
 
 // An input is told its level, 0 off or 1 on. The level that it has is not stored again.
+#[tactic(auto, unfolding(crate::specs::Levels::level_of))]
 pub fn level(board: &mut [[u64; 8]; ROWS], input: u8, level: u8) -> Changed
     ensures { Makes (level_of input level board.old) board.new result }
 {
@@ -106,6 +111,7 @@ pub fn level(board: &mut [[u64; 8]; ROWS], input: u8, level: u8) -> Changed
 }
 
 // An edit of any relay that is there, the second deck's too.
+#[tactic(auto, unfolding(crate::specs::Commands::on_present))]
 fn switch_relay(board: &mut [[u64; 8]; ROWS], channel: u16, edit: RelayEdit) -> Changed
     ensures { Makes (on_present (relay_edited edit) channel board.old) board.new result }
 {
@@ -153,6 +159,7 @@ pub fn clear_relay_usage(board: &mut [[u64; 8]; ROWS], channel: u16) -> Changed
 }
 
 // One entry of a WriteDevices message for input k.
+#[tactic(auto, unfolding(crate::specs::Entries::write_input))]
 pub fn write_input(board: &mut [[u64; 8]; ROWS], k: u8, flags: u8, count: u32) -> Changed
     ensures { Makes (write_input k flags count board.old) board.new result }
 {
@@ -163,6 +170,7 @@ pub fn write_input(board: &mut [[u64; 8]; ROWS], k: u8, flags: u8, count: u32) -
 }
 
 // One entry of a WriteDevices message for relay k.
+#[tactic(auto, unfolding(crate::specs::Entries::write_relay))]
 pub fn write_relay(board: &mut [[u64; 8]; ROWS], k: u8, flags: u8, state: u8) -> Changed
     ensures { Makes (write_relay k flags state board.old) board.new result }
 {

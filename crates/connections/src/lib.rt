@@ -1,6 +1,8 @@
 // The connections: which are open, which of them are strict, and opening and closing one. It knows nothing of half-read messages. It takes
 // every number, every rank and every board, nonsense included.
 
+#![tactic(auto)]
+
 ghost use Rattle.std.specs.Prelude.{◌≡◌, ◌&&◌};
 ghost use Rattle.records.specs.Records.{shut_line};
 ghost use Rattle.answers.specs.Calls.{Gives};
@@ -31,6 +33,7 @@ fn both(a: bool, b: bool) -> bool
 }
 
 // A connection that was opened at a rank, with a module present or not. What the opening said of its strictness is kept as it is.
+#[tactic(auto, unfolding(crate::specs::Lines::opened_line))]
 fn opened(rank: u64, strict: u64, present: bool) -> Line
     ensures { result ≡ opened_line rank strict present }
 {
@@ -62,6 +65,7 @@ pub fn is_strict(board: &[[u64; 8]; ROWS], c: u8) -> bool
 }
 
 // A connection is opened at a rank; strict is 0 for one that is not strict, and anything else for one that is.
+#[tactic(auto, unfolding(crate::specs::Lines::connected))]
 pub fn connect(board: &mut [[u64; 8]; ROWS], c: u8, rank: u8, strict: u8) -> Served
     ensures { Gives (connected c rank strict board.old) board.new result }
 {
@@ -84,6 +88,7 @@ pub fn connect(board: &mut [[u64; 8]; ROWS], c: u8, rank: u8, strict: u8) -> Ser
 }
 
 // A connection is closed.
+#[tactic(auto, unfolding(crate::specs::Lines::closed))]
 pub fn close(board: &mut [[u64; 8]; ROWS], c: u8) -> Served
     ensures { Gives (closed c board.old) board.new result }
 {

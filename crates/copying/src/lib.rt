@@ -1,6 +1,8 @@
 // Bytes copied into a slice, four at a time and then what is left. Nothing is written past an end, and nothing at all where not all fit.
 // Assumes nothing of its callers.
 
+#![tactic(auto)]
+
 ghost use Rattle.std.specs.Prelude.{◌≡◌, ◌+◌, ◌≤◌, length, take, drop};
 ghost use Rattle.laws.specs.Put.{Wrote, put};
 ghost use Rattle.words.specs.Words.{Stored};

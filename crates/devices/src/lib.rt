@@ -1,6 +1,8 @@
 // The devices and their IDs: which input or relay an ID names, and the ID of each, both by the one formula and without a list. It takes every
 // number. Which of the devices the box has is not asked here.
 
+#![tactic(auto)]
+
 ghost use Rattle.std.specs.Prelude.{◌≡◌, cond, ◌+◌, ◌*◌, ◌≤◌};
 ghost use Rattle.devices.specs.Devices.{is_one_of, id_of, device_of};
 
@@ -10,7 +12,7 @@ const INPUTS: u64 = 8;
 const RELAYS: u64 = 16;
 
 // What an ID names: an input or a relay, by its channel.
-#[derive(Drop)]
+#[derive(Clone, Copy)]
 pub enum Device {
     Din(u8),
     Rout(u8),
@@ -18,6 +20,7 @@ pub enum Device {
 }
 
 // The device of an ID. Its low byte is 255; what stands above it is an input's number, or 256 more than a relay's.
+#[tactic(auto, unfolding(crate::specs::Devices::device_of))]
 pub fn device_of(id: u64) -> Device
     ensures { result ≡ device_of id }
 {
@@ -56,6 +59,7 @@ fn id_from(before: u64, many: u64, k: u8) -> u64
 }
 
 // The ID of a device, 0 for none.
+#[tactic(auto, unfolding(crate::specs::Devices::id_of))]
 pub fn id_of(d: Device) -> u64
     ensures { result ≡ id_of d }
 {

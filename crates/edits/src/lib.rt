@@ -1,6 +1,8 @@
 // What is done to one input or one relay, as records by value: it is told its level, a command or an entry of a WriteDevices message edits it.
 // It knows no board. It takes every record and every number.
 
+#![tactic(auto)]
+
 ghost use Rattle.std.specs.Prelude.{◌≡◌, cond};
 ghost use Rattle.laws.specs.Bits.{bit_of};
 ghost use Rattle.edits.specs.Edits.{raised, told, count_written, state_written, input_written, relay_written, relay_fails, input_edited, relay_edited};
@@ -24,6 +26,7 @@ fn raise(before: bool, after: bool, count: u64) -> u64
 }
 
 // An input that is told its level.
+#[tactic(auto, unfolding(crate::specs::Edits::told))]
 fn tell(mut i: Input, on: bool) -> Input
     ensures { result ≡ told on i }
 {
@@ -71,6 +74,7 @@ fn usage_after(reset: bool, usage: u64) -> u64
     if reset { 0 } else { usage }
 }
 
+#[tactic(auto, unfolding(crate::specs::Edits::input_written))]
 fn input_written(mut i: Input, flags: u8, count: u64) -> Input
     ensures { result ≡ input_written flags count i }
 {
@@ -79,6 +83,7 @@ fn input_written(mut i: Input, flags: u8, count: u64) -> Input
     i
 }
 
+#[tactic(auto, unfolding(crate::specs::Edits::relay_written))]
 fn relay_written(mut r: Relay, flags: u8, state: u8) -> Relay
     ensures { result ≡ relay_written flags state r }
 {
@@ -88,7 +93,7 @@ fn relay_written(mut r: Relay, flags: u8, state: u8) -> Relay
 }
 
 // What is done to one input: it is told its level, a command clears, an entry of a WriteDevices message writes (flags, count).
-#[derive(Drop)]
+#[derive(Clone, Copy)]
 pub enum InputEdit {
     Tell(bool),
     ClearCount,
@@ -97,7 +102,7 @@ pub enum InputEdit {
 }
 
 // What is done to one relay: a command switches or clears, an entry of a WriteDevices message writes (flags, state).
-#[derive(Drop)]
+#[derive(Clone, Copy)]
 pub enum RelayEdit {
     Close,
     Open,

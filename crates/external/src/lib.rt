@@ -1,5 +1,7 @@
 // The External Monitor message: the second deck's relays that are there, written as the answers of the crate replies are. Takes every board.
 
+#![tactic(auto)]
+
 ghost use Rattle.std.specs.Prelude.{◌≡◌, ◌+◌, ◌≤◌, length};
 ghost use Rattle.laws.specs.Put.{Wrote, rows};
 ghost use Rattle.modules.specs.Modules.{second_deck};

@@ -1,4 +1,2 @@
 pub mod Places
-pub mod Readers
-pub mod Steps
 pub mod Unique

@@ -2,32 +2,34 @@
 // content and how much of it is taken. This crate alone knows of readers: its callers hand over a content and the widths of its fields, and
 // know themselves what stands where. Assumes nothing of its callers.
 
+#![tactic(auto)]
+
 ghost use Rattle.std.specs.Prelude.{◌≡◌, ◌+◌, drop};
 ghost use Rattle.fields.specs.Fields.{onward_of, taken_of, reader_of, field_off, fields_of};
 
 // One lent content and how much of its front is taken.
-#[derive(Drop)]
+#[derive(Clone, Copy)]
 struct Reader<'a> {
     content: &'a [u8],
     at: usize,
 }
 
 // A field taken off the front: its number, and the reader of what follows it.
-#[derive(Drop)]
+#[derive(Clone, Copy)]
 struct Field<'a> {
     number: u64,
     rest: Reader<'a>,
 }
 
 // The same by places: the number of a field, and the place behind it.
-#[derive(Drop)]
+#[derive(Clone, Copy)]
 struct Taken {
     number: u64,
     next: usize,
 }
 
 // The numbers of four fields that follow one another.
-#[derive(Drop)]
+#[derive(Clone, Copy)]
 pub struct Numbers {
     pub first: u64,
     pub second: u64,

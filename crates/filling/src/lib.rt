@@ -2,6 +2,8 @@
 // never seen here: of it its length comes, and a record by value. It takes every board, nonsense words too, every number of records and every
 // place.
 
+#![tactic(auto)]
+
 ghost use Rattle.std.specs.Prelude.{◌≡◌};
 ghost use Rattle.answers.specs.Calls.{Gives};
 ghost use Rattle.filling.specs.Filling.{module_mask, place_answer, filled_at, last_gone, emptied_at, place_filled, place_emptied, losing, without, lost};

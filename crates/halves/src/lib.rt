@@ -1,6 +1,8 @@
 // The half-read messages: for each connection the three words in which the host lends it. Any words stand for one, so every function takes
 // every input. The content read so far stands in the connection's room, which the definitions place and only the framing writes.
 
+#![tactic(auto)]
+
 ghost use Rattle.std.specs.Prelude.{◌≡◌};
 ghost use Rattle.steps.specs.Steps.{start, half_after};
 ghost use Rattle.halves.specs.Halves.{half_in, half_words, half_at, put_half, dropped};
@@ -34,6 +36,7 @@ fn half_words(h: Half) -> [u64; 3]
 }
 
 // Connection c's half-read message; of what is no connection, nothing.
+#[tactic(auto, unfolding(crate::specs::Halves::half_at))]
 pub fn half_at(halves: &[[u64; 3]; 4], c: usize) -> Half
     ensures { result ≡ half_at c halves.now }
 {
@@ -44,6 +47,7 @@ pub fn half_at(halves: &[[u64; 3]; 4], c: usize) -> Half
     nothing_read()
 }
 
+#[tactic(auto, unfolding(crate::specs::Halves::put_half))]
 fn put_half(halves: &mut [[u64; 3]; 4], c: usize, h: Half)
     ensures { halves.new ≡ put_half c h halves.old }
 {

@@ -1,5 +1,7 @@
 // Hexadecimal: the bytes of a line of digits, and the digits of an answer and of the relays. Takes every line and every board.
 
+#![tactic(auto)]
+
 ghost use Rattle.std.specs.Prelude.{◌≡◌, ◌/◌, ◌%◌, ◌≤◌, ◌<◌, length};
 ghost use Rattle.laws.specs.Put.{put, Wrote};
 ghost use Rattle.hexadecimal.specs.Digits.{is_digit, digit_of, all_digits, feeds, pairs, parsed};
@@ -9,7 +11,7 @@ use records::Relay;
 use rows::ROWS;
 
 // What a line holds: so many bytes, or nothing that can be fed.
-#[derive(Drop)]
+#[derive(Clone, Copy)]
 pub enum Parsed {
     Bytes(usize),
     Bad,
@@ -17,6 +19,7 @@ pub enum Parsed {
 
 // ---- a line
 
+#[tactic(auto, unfolding(crate::specs::Digits::is_digit))]
 fn is_digit(c: u8) -> bool
     ensures { result ≡ is_digit c }
 {
@@ -32,6 +35,7 @@ fn is_digit(c: u8) -> bool
     c <= 70
 }
 
+#[tactic(auto, unfolding(crate::specs::Digits::digit_of))]
 fn digit(c: u8) -> u8
     ensures { (result ≡ digit_of c) × (result < 16) }
 {
@@ -64,6 +68,7 @@ fn all_digits(line: &[u8]) -> bool
 }
 
 // Whether a line is not empty, even, at most 2,058 characters, and all digits.
+#[tactic(auto, unfolding(crate::specs::Digits::feeds))]
 fn is_frame(line: &[u8]) -> bool
     ensures { result ≡ feeds line.now }
 {
@@ -142,6 +147,7 @@ fn digit_of(number: u16, weight: u16) -> u8
     glyph((number / weight % 16) as u8)
 }
 
+#[tactic(auto, unfolding(crate::specs::Digits::shown_of))]
 pub fn digits(answer: u8, relays: u16) -> [u8; 7]
     ensures { result ≡ shown_of answer relays }
 {

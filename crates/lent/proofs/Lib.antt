@@ -1,5 +1,3 @@
-pub mod Calling
 pub mod Losing
 pub mod Places
-pub mod Relent
 pub mod Unique

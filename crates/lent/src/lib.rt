@@ -1,5 +1,7 @@
 // The lent row of pulses: the functions that look into it. Any place is taken: past the row's end there is no pulse, and a store does nothing.
 
+#![tactic(auto)]
+
 ghost use Rattle.std.specs.Prelude.{◌≡◌, set};
 ghost use Rattle.ring.specs.Ring.{pulse_at};
 ghost use Rattle.filling.specs.Filling.{lost, row_without};

@@ -2,6 +2,8 @@
 // It knows no messages, no events and no half-read messages.
 // Takes every board, nonsense words too.
 
+#![tactic(auto)]
+
 ghost use Rattle.std.specs.Prelude.{◌≡◌, ◌&&◌, cond, ◌<◌, set};
 ghost use Rattle.records.specs.Records.{external_word};
 ghost use Rattle.rows.specs.Places.{row_at, line_place, line_at, due_set};
@@ -47,6 +49,7 @@ fn any_moved(m: Moved) -> bool
 
 // The marks that follow from a change, on whichever deck: the first deck's marks the Monitor message, and while a module is present either
 // deck's marks the External Monitor message.
+#[tactic(auto, unfolding(crate::specs::Marks::marked))]
 pub fn mark(board: &mut [[u64; 8]; ROWS], moved: Moved)
     ensures { board.new ≡ marked moved board.old }
 {
@@ -66,6 +69,7 @@ fn clear_line(board: &mut [[u64; 8]; ROWS], c: usize)
 }
 
 // Every mark of the External Monitor message is cleared.
+#[tactic(auto, unfolding(crate::specs::Marks::external_cleared))]
 pub fn clear_external(board: &mut [[u64; 8]; ROWS])
     ensures { board.new ≡ external_cleared board.old }
 {

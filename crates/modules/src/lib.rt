@@ -2,6 +2,8 @@
 // board are read and written here alone. It takes every board, nonsense words too, and every number: one that is no place's reads as empty,
 // and a store to it does nothing.
 
+#![tactic(auto)]
+
 ghost use Rattle.std.specs.Prelude.{◌≡◌, cond, ◌&&◌, ◌||◌, not, leb, length};
 ghost use Rattle.records.specs.Records.{flagged};
 ghost use Rattle.modules.specs.Modules.{is_place, filled, place_set, present, has_module, outputs, moved_at};
@@ -12,7 +14,7 @@ use rows::{FIRST_PLACE, ROWS};
 const FILLED: usize = 0;
 
 // What a change really changed: inner, a level or one of relays 1 to 8; outer, one of relays 9 to 16.
-#[derive(Drop)]
+#[derive(Clone, Copy)]
 pub struct Moved {
     pub inner: bool,
     pub outer: bool,
@@ -44,6 +46,7 @@ pub fn is_place(place: usize) -> bool
 }
 
 // Whether a module stands at a place.
+#[tactic(auto, unfolding(crate::specs::Modules::filled))]
 pub fn is_filled(board: &[[u64; 8]; ROWS], place: usize) -> bool
     ensures { result ≡ filled place board.now }
 {
@@ -60,6 +63,7 @@ fn flag(b: bool) -> u64
 }
 
 // A place is filled, or emptied; no other word changes.
+#[tactic(auto, unfolding(crate::specs::Modules::place_set))]
 pub fn set_filled(board: &mut [[u64; 8]; ROWS], place: usize, holds: bool)
     ensures { board.new ≡ place_set place holds board.old }
 {
@@ -69,6 +73,7 @@ pub fn set_filled(board: &mut [[u64; 8]; ROWS], place: usize, holds: bool)
 }
 
 // Whether relay k is there: 1 to 8 always, one of 9 to 16 with its module.
+#[tactic(auto, unfolding(crate::specs::Modules::present))]
 pub fn is_present(board: &[[u64; 8]; ROWS], k: usize) -> bool
     ensures { result ≡ present k board.now }
 {
@@ -105,6 +110,7 @@ pub fn output_count(board: &[[u64; 8]; ROWS]) -> u8
 }
 
 // The deck on which relay k moved, if it did.
+#[tactic(auto, unfolding(crate::specs::Modules::moved_at))]
 pub fn moved_at(k: usize, moved: bool) -> Moved
     ensures { result ≡ moved_at k moved }
 {

@@ -1,6 +1,8 @@
 // The answer numbers of 01's table, and those that 02 adds, each by its name. A number stands here for the code and in specs/Numbers for the
 // definitions, and who answers with one uses its name; the tests, the header and these are held to each other. There is no function here.
 
+#![tactic(auto)]
+
 pub const WAITING: u8 = 0;
 
 pub const SERVED: u8 = 1;

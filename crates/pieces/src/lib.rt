@@ -1,6 +1,8 @@
 // A piece of bytes from a connection: it is fed to the connection's half-read message, and a message that ends is judged and served.
 // Every public function takes every input. A refused call takes nothing and changes nothing. Of the lent row of pulses only its length comes here.
 
+#![tactic(auto)]
+
 ghost use Rattle.std.specs.Prelude.{◌≡◌, true, ◌<◌, ◌≤◌, length};
 ghost use Rattle.steps.specs.Steps.{half_after};
 ghost use Rattle.framing.specs.Reading.{run_of, got_of};
@@ -21,7 +23,7 @@ use steps::{Half, Outcome};
 // where that is why it is refused (else 0), and the answer number. The number stands last: in front it would have a gap behind it, and a struct
 // with a gap inside is put together in memory and copied.
 #[repr(C)]
-#[derive(Drop)]
+#[derive(Clone, Copy)]
 pub struct Done {
     pub taken: usize,
     pub len: usize,
@@ -128,6 +130,7 @@ fn take_bytes(
 }
 
 // Bytes of connection c, up to the end of a message, which is served, or of the piece.
+#[tactic(auto, unfolding(crate::specs::Pieces::halves_after, crate::specs::Pieces::rooms_after))]
 pub fn give_bytes(
     board: &mut [[u64; 8]; ROWS],
     halves: &mut [[u64; 3]; 4],

@@ -87,4 +87,4 @@ no_bytes = refl
 -- what is due, one behind the other
 pub both-sent : (l : Line) (b : Board) {at r : ℕ} {o₀ o o' : List ℕ} → Wrote 0 (frames_of (if_wanted l.due (monitor_reply b))) o₀ o at
     → Wrote at (frames_of (if_wanted l.external (external_reply b))) o o' r → Wrote 0 (frames_of (due_replies l b)) o₀ o' r
-both-sent l b x y = rw (frames-append (if_wanted l.due (monitor_reply b)) (if_wanted l.external (external_reply b))) (then x y)
+both-sent l b x y = rw (← frames-append (if_wanted l.due (monitor_reply b)) (if_wanted l.external (external_reply b))) at (then x y)

@@ -1,5 +1,7 @@
 // The box at power-up: every word 0 but what the host sets.
 
+#![tactic(auto)]
+
 ghost use Rattle.std.specs.Prelude.{◌≡◌};
 ghost use Rattle.powerup.specs.PowerUp.{fresh_input, fresh_relay, powered_up};
 
@@ -8,7 +10,7 @@ use rows::ROWS;
 
 // What the host sets of an input at power-up; alarm is the alarm switch.
 #[repr(C)]
-#[derive(Drop)]
+#[derive(Clone, Copy)]
 pub struct InputSettings {
     pub setpoint_one: u32,
     pub setpoint_two: u32,
@@ -18,7 +20,7 @@ pub struct InputSettings {
 
 // What the host sets at power-up; of a relay its usage setpoint.
 #[repr(C)]
-#[derive(Drop)]
+#[derive(Clone, Copy)]
 pub struct Settings {
     pub inputs: [InputSettings; 8],
     pub relays: [u64; 8],

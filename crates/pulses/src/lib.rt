@@ -2,6 +2,8 @@
 // The pulses' records stand in a lent row, which this crate never sees: what it needs of it comes by value, and a request that is accepted is
 // kept in the board until it is written there. Takes every board, nonsense words too; a pulse with no ms left ends in the next ms.
 
+#![tactic(auto)]
+
 ghost use Rattle.std.specs.Prelude.{◌≡◌, cond, ◌+◌, ◌-◌, ◌<◌, ◌^◌, min, eqb};
 ghost use Rattle.numbers.specs.Numbers.{waiting, served, short_buffer, queue_full};
 ghost use Rattle.rows.specs.Places.{relay_at, queue_of, left_set};
@@ -15,7 +17,7 @@ use rows::ROWS;
 
 // How far a call of time has come: the ms that are left, the running pulse's place in the row and that of the next, the call's answer, and
 // whether the running pulse ends within those ms. Where none does, all have passed.
-#[derive(Drop)]
+#[derive(Clone, Copy)]
 pub struct Time {
     pub rest: u32,
     pub first: usize,

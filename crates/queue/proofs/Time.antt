@@ -27,7 +27,7 @@ use Rattle.tables.specs.Time.{grown, usage_passed, relay_passed, passed}
 use Rattle.tables.proofs.Views.{time-relay}
 use Rattle.ring.specs.declared.Pulse.{Pulse}
 use Rattle.pulses.specs.Pulses.{lasts, ends_within, states_of, beginning, begun, ended, turned, waited, tick, elapsed, accepted}
-use Rattle.ring.specs.Ring.{pulse_of, pulse_at, standing, is_full, runs, place, joined, row_after}
+use Rattle.ring.specs.Ring.{pulse_of, pulse_at, is_full, runs, place, joined, row_after}
 use Rattle.pulses.proofs.Apart.{queue-passed}
 use Rattle.pulses.proofs.Ticks.{leaving, left-told, quiet, jump}
 use Rattle.pulses.proofs.Passing.{no_row, has-row, queue-ended}

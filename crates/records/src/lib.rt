@@ -1,5 +1,7 @@
 // A row of eight words and the record that it stands for: an input, a relay, a connection, the queue of pulses. Any words at all stand for one.
 
+#![tactic(auto)]
+
 ghost use Rattle.std.specs.Prelude.{◌≡◌, cond};
 ghost use Rattle.records.specs.Records.{flagged, input_in, input_words, relay_in, relay_words, line_in, line_words, due_words, queue_in, queue_words};
 
@@ -17,7 +19,7 @@ pub const EXTERNAL: usize = 5;
 pub const LEFT: usize = 2;
 
 // An input; alarm is its alarm switch.
-#[derive(Drop)]
+#[derive(Clone, Copy)]
 pub struct Input {
     pub level: bool,
     pub alarm: bool,
@@ -28,7 +30,7 @@ pub struct Input {
     pub usage_setpoint: u64,
 }
 
-#[derive(Drop)]
+#[derive(Clone, Copy)]
 pub struct Relay {
     pub closed: bool,
     pub usage: u64,
@@ -37,7 +39,7 @@ pub struct Relay {
 
 // A connection, without its half-read message; strict is what its opening said, external whether the External Monitor message is due. A shut
 // one is all zero.
-#[derive(Drop)]
+#[derive(Clone, Copy)]
 pub struct Line {
     pub is_open: bool,
     pub rank: u64,
@@ -49,7 +51,7 @@ pub struct Line {
 
 // The queue of pulses, without its records, which stand in a row of their own: the place of the first, which runs, and how many stand; of the
 // running one the ms left and the relays' states at its beginning; and the request that was accepted last, as it goes into that row.
-#[derive(Drop)]
+#[derive(Clone, Copy)]
 pub struct Queue {
     pub first: u64,
     pub standing: u64,

@@ -31,7 +31,6 @@ use Rattle.filling.specs.Filling.{row_emptied, filled_at, emptied_at, place_fill
 use Rattle.connections.specs.Lines.{connected, closed}
 use Rattle.answers.specs.Calls.{Did, frames_of}
 use Rattle.serving.specs.Serving.{served_message}
-use Rattle.serving.proofs.Lengths as serving
 use Rattle.halves.specs.Halves.{Halves}
 use Rattle.pieces.specs.declared.Done.{Done}
 use Rattle.pieces.specs.Effects.{Effect, Ends, Answers}

@@ -29,9 +29,9 @@ module _ {P : Board → Type 0} (k : Fills P) where
   unfolding last_gone
   last-keeps b h = by_cases (has_module b) (λ t. rw t h) (λ n. rw n (k.clears b h))
 
-  filled_at : (p : ℕ) (b : Board) → P b → P (filled_at p b)
+  filled-at : (p : ℕ) (b : Board) → P b → P (filled_at p b)
   unfolding filled_at
-  filled_at p b h = by_cases (filled p b) (λ t. rw t h) (λ n. rw n (place-keeps p true (opened p b).board (k.change _ _ b h)))
+  filled-at p b h = by_cases (filled p b) (λ t. rw t h) (λ n. rw n (place-keeps p true (opened p b).board (k.change _ _ b h)))
 
   emptied-at : (p : ℕ) (b : Board) → P b → P (emptied_at p b)
   unfolding emptied_at
@@ -42,7 +42,7 @@ module _ {P : Board → Type 0} (k : Fills P) where
 
   pub filled_keeps : (records p : ℕ) (b : Board) → P b → P (place_filled records p b).board
   unfolding place_filled
-  filled_keeps records p b h = place-cases filled_at records p b (λ (d : Did). P d.board) h h (filled_at p b h)
+  filled_keeps records p b h = place-cases filled_at records p b (λ (d : Did). P d.board) h h (filled-at p b h)
 
   pub emptied-keeps : (records p : ℕ) (b : Board) → P b → P (place_emptied records p b).board
   unfolding place_emptied

@@ -2,7 +2,7 @@
 use mathlib.Core.Path.{◌≡◌, sym, ◌∙◌}
 use Rattle.ring.proofs.relay_pulse.Reads as relay-pulse
 use Rattle.ring.proofs.block_pulse.Reads as block-pulse
-use Rattle.ring.proofs.place_in.Reads as IsPlace-in
+use Rattle.ring.proofs.place_in.Reads as place-in
 use Rattle.ring.proofs.join.Reads as join
 use Rattle.ring.proofs.newest_of.Reads as newest-of
 use Rattle.ring.proofs.seat.Reads as seat
@@ -14,7 +14,7 @@ unique-relay-pulse κs a r r' s s' p q = p ∙ sym q
 pub unique-block-pulse : (κs : _) (a : _) (r r' : _) (s s' : _) → block-pulse.Post κs a r s → block-pulse.Post κs a r' s' → r ≡ r'
 unique-block-pulse κs a r r' s s' p q = p ∙ sym q
 
-pub unique-place-in : (κs : _) (a : _) (r r' : _) (s s' : _) → IsPlace-in.Post κs a r s → IsPlace-in.Post κs a r' s' → r ≡ r'
+pub unique-place-in : (κs : _) (a : _) (r r' : _) (s s' : _) → place-in.Post κs a r s → place-in.Post κs a r' s' → r ≡ r'
 unique-place-in κs a r r' s s' p q = p ∙ sym q
 
 pub unique-join : (κs : _) (a : _) (r r' : _) (s s' : _) → join.Post κs a r s → join.Post κs a r' s' → r ≡ r'

@@ -2,6 +2,8 @@
 // is gone. Queues come and go by value; of the board it reads the queue's row alone. It switches no relay and passes no time.
 // Takes every queue, nonsense words too: of a number of pulses above 31, 31 stand; the first stands at the rest of its place by 31.
 
+#![tactic(auto)]
+
 ghost use Rattle.std.specs.Prelude.{◌≡◌, cond, ◌-◌, min};
 ghost use Rattle.ring.specs.Ring.{pulse_of, relay_pulse, is_full, place, popped, joined, newest, seat_of};
 
@@ -10,7 +12,7 @@ use rows::ROWS;
 
 // The masked relays take these states for so many ms.
 #[repr(C)]
-#[derive(Drop)]
+#[derive(Clone, Copy)]
 pub struct Pulse {
     pub mask: u16,
     pub states: u16,
@@ -18,6 +20,7 @@ pub struct Pulse {
 }
 
 // Action 6: relay k is closed for so many ms.
+#[tactic(auto, unfolding(crate::specs::Ring::relay_pulse))]
 pub fn relay_pulse(k: u16, duration: u32) -> Pulse
     ensures { result ≡ relay_pulse k duration }
 {
@@ -69,6 +72,7 @@ pub fn join(q: Queue, p: Pulse) -> Queue
 }
 
 // The request that was accepted last, as it goes into the row.
+#[tactic(auto, unfolding(crate::specs::Ring::newest))]
 pub fn newest_of(board: &[[u64; 8]; ROWS]) -> Pulse
     ensures { result ≡ newest board.now }
 {
@@ -81,6 +85,7 @@ pub fn newest_of(board: &[[u64; 8]; ROWS]) -> Pulse
 }
 
 // Its place in a row of so many records, where more pulses stand than did before; else none, behind the row's end.
+#[tactic(auto, unfolding(crate::specs::Ring::seat_of))]
 pub fn seat(before: Queue, after: Queue, records: usize) -> usize
     ensures { result ≡ seat_of records before after }
 {

@@ -6,7 +6,7 @@ use Rattle.rows.proofs.input_at.Reads as input-at
 use Rattle.rows.proofs.put_input.Reads as put-input
 use Rattle.rows.proofs.relay_at.Reads as relay-at
 use Rattle.rows.proofs.put_relay.Reads as put-relay
-use Rattle.rows.proofs.line_at.Reads as line_at_lem
+use Rattle.rows.proofs.line_at.Reads as line-at
 use Rattle.rows.proofs.put_line.Reads as put-line
 use Rattle.rows.proofs.set_due.Reads as set-due
 use Rattle.rows.proofs.clock.Reads as clock
@@ -33,7 +33,7 @@ unique-relay-at κs a r r' s s' p q = p ∙ sym q
 pub unique-put-relay : (κs : _) (a : _) (r r' : _) (s s' : _) → put-relay.Post κs a r s → put-relay.Post κs a r' s' → s.0.now ≡ s'.0.now
 unique-put-relay κs a r r' s s' p q = p ∙ sym q
 
-pub unique-line-at : (κs : _) (a : _) (r r' : _) (s s' : _) → line_at_lem.Post κs a r s → line_at_lem.Post κs a r' s' → r ≡ r'
+pub unique-line-at : (κs : _) (a : _) (r r' : _) (s s' : _) → line-at.Post κs a r s → line-at.Post κs a r' s' → r ≡ r'
 unique-line-at κs a r r' s s' p q = p ∙ sym q
 
 pub unique-put-line : (κs : _) (a : _) (r r' : _) (s s' : _) → put-line.Post κs a r s → put-line.Post κs a r' s' → s.0.now ≡ s'.0.now

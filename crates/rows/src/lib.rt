@@ -3,6 +3,8 @@
 // Every function takes every board, nonsense words too, and every number: one that is no channel's, or no connection's, reads as blank,
 // and a store to it does nothing.
 
+#![tactic(auto)]
+
 ghost use Rattle.std.specs.Prelude.{◌≡◌};
 ghost use Rattle.rows.specs.Places.{is_channel, is_relay, input_at, put_input, relay_at, put_relay, line_at, put_line, due_set};
 ghost use Rattle.rows.specs.Places.{clock_of, clock_set, queue_of, put_queue, left_set};
@@ -41,6 +43,7 @@ pub fn is_relay(k: usize) -> bool
     1 <= k && k <= 16
 }
 
+#[tactic(auto, unfolding(crate::specs::Places::input_at))]
 pub fn input_at(board: &[[u64; 8]; ROWS], k: usize) -> Input
     ensures { result ≡ input_at k board.now }
 {
@@ -51,6 +54,7 @@ pub fn input_at(board: &[[u64; 8]; ROWS], k: usize) -> Input
     records::input_in([0; 8])
 }
 
+#[tactic(auto, unfolding(crate::specs::Places::put_input))]
 pub fn put_input(board: &mut [[u64; 8]; ROWS], k: usize, i: Input)
     ensures { board.new ≡ put_input k i board.old }
 {
@@ -59,6 +63,7 @@ pub fn put_input(board: &mut [[u64; 8]; ROWS], k: usize, i: Input)
     }
 }
 
+#[tactic(auto, unfolding(crate::specs::Places::relay_at))]
 pub fn relay_at(board: &[[u64; 8]; ROWS], k: usize) -> Relay
     ensures { result ≡ relay_at k board.now }
 {
@@ -69,6 +74,7 @@ pub fn relay_at(board: &[[u64; 8]; ROWS], k: usize) -> Relay
     records::relay_in([0; 8])
 }
 
+#[tactic(auto, unfolding(crate::specs::Places::put_relay))]
 pub fn put_relay(board: &mut [[u64; 8]; ROWS], k: usize, r: Relay)
     ensures { board.new ≡ put_relay k r board.old }
 {
@@ -79,6 +85,7 @@ pub fn put_relay(board: &mut [[u64; 8]; ROWS], k: usize, r: Relay)
     }
 }
 
+#[tactic(auto, unfolding(crate::specs::Places::line_at))]
 pub fn line_at(board: &[[u64; 8]; ROWS], c: usize) -> Line
     ensures { result ≡ line_at c board.now }
 {
@@ -89,6 +96,7 @@ pub fn line_at(board: &[[u64; 8]; ROWS], c: usize) -> Line
     records::line_in([0; 8])
 }
 
+#[tactic(auto, unfolding(crate::specs::Places::put_line))]
 pub fn put_line(board: &mut [[u64; 8]; ROWS], c: usize, l: Line)
     ensures { board.new ≡ put_line c l board.old }
 {
@@ -98,6 +106,7 @@ pub fn put_line(board: &mut [[u64; 8]; ROWS], c: usize, l: Line)
 }
 
 // One mark of a connection, or the other, or both, and no other word of it.
+#[tactic(auto, unfolding(crate::specs::Places::due_set))]
 pub fn set_due(board: &mut [[u64; 8]; ROWS], c: usize, due: bool, external: bool)
     ensures { board.new ≡ due_set c due external board.old }
 {
@@ -114,12 +123,14 @@ pub fn clock(board: &[[u64; 8]; ROWS]) -> u64
     board[CLOCK][0]
 }
 
+#[tactic(auto, unfolding(crate::specs::Places::clock_set))]
 pub fn set_clock(board: &mut [[u64; 8]; ROWS], v: u64)
     ensures { board.new ≡ clock_set v board.old }
 {
     board[CLOCK][0] = v;
 }
 
+#[tactic(auto, unfolding(crate::specs::Places::queue_of))]
 pub fn queue_of(board: &[[u64; 8]; ROWS]) -> Queue
     ensures { result ≡ queue_of board.now }
 {
@@ -127,12 +138,14 @@ pub fn queue_of(board: &[[u64; 8]; ROWS]) -> Queue
     records::queue_in(row)
 }
 
+#[tactic(auto, unfolding(crate::specs::Places::put_queue))]
 pub fn put_queue(board: &mut [[u64; 8]; ROWS], q: Queue)
     ensures { board.new ≡ put_queue q board.old }
 {
     board[QUEUE] = records::queue_words(q);
 }
 
+#[tactic(auto, unfolding(crate::specs::Places::left_set))]
 pub fn set_left(board: &mut [[u64; 8]; ROWS], v: u64)
     ensures { board.new ≡ left_set v board.old }
 {

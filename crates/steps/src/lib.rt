@@ -1,12 +1,14 @@
 // One byte of a message: at a message start, in its header, in its content. This crate knows no message type, no checksum and no room.
 // Every function takes every input: any half-read message, nonsense too.
 
+#![tactic(auto)]
+
 ghost use Rattle.std.specs.Prelude.{◌≡◌, ◌+◌, ◌*◌, ◌%◌};
 ghost use Rattle.steps.specs.Steps.{after_of, first_of, step_of};
 
 // How far a message has been read: bytes taken, and what its header says so far.
 #[repr(C)]
-#[derive(Drop)]
+#[derive(Clone, Copy)]
 pub struct Half {
     pub got: u32,
     pub len: u16,
@@ -14,7 +16,7 @@ pub struct Half {
 }
 
 // What a byte comes to: the message waits for more, or one has ended. A Message has its length and its sent checksum.
-#[derive(Drop)]
+#[derive(Clone, Copy)]
 pub enum Outcome {
     Waiting(Half),
     KeepAlive,
@@ -30,6 +32,7 @@ fn wide(b: u8) -> u16
 }
 
 // At a message start.
+#[tactic(auto, unfolding(crate::specs::Steps::first_of))]
 fn first(b: u8) -> Outcome
     ensures { result ≡ first_of b }
 {
@@ -47,6 +50,7 @@ fn first(b: u8) -> Outcome
 }
 
 // After byte `got`, counted from 0, of a frame whose header is in.
+#[tactic(auto, unfolding(crate::specs::Steps::after_of))]
 fn after(got: u32, len: u16, sum: u16) -> Outcome
     ensures { result ≡ after_of got len sum }
 {
@@ -61,6 +65,7 @@ fn after(got: u32, len: u16, sum: u16) -> Outcome
 }
 
 // One byte more of a message.
+#[tactic(auto, unfolding(crate::specs::Steps::step_of))]
 pub fn step(h: Half, b: u8) -> Outcome
     ensures { result ≡ step_of h b }
 {

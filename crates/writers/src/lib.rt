@@ -1,6 +1,8 @@
 // What the writers of answers share, those with readings and those without: what each leaves of the lent bytes and answers, the inputs and
 // relays in the order of their channels, and the byte of a level, a state or an alarm.
 
+#![tactic(auto)]
+
 ghost use Rattle.std.specs.Prelude.{◌≡◌, cond};
 
 // A level, a relay's state or an alarm as a byte.

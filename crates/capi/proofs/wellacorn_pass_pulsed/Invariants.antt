@@ -1,0 +1,9 @@
+-- What the ms that are left lead to is what all ms do; each turn one pulse fewer waits.
+use Rattle.pulses.proofs.Passing.{Passing, waiting}
+use Rattle.capi.proofs.wellacorn_pass_pulsed.Given as goal
+
+abbrev pub invariant-loop-ending : goal.invariant-loop-ending
+invariant-loop-ending l = Passing l.row l.d l.fn.board l.t l.board
+
+abbrev pub decreases-loop-ending : goal.decreases-loop-ending
+decreases-loop-ending l = waiting l.board
