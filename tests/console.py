@@ -2,7 +2,7 @@
 """Runs the compiled console on inputs that reads cut in every way: 01's example alone, byte by byte, without its last newline; nothing at all;
 and some megabytes, more than a thousand reads, of lines that the independent model answers.
 
-    python3 tests/console.py                the console of rt check, by host/exec
+    python3 tests/console.py                the console of rt run, by host/exec
     python3 tests/console.py COMMAND...     another command, to see that these tests can fail
 
 Prints what differs and exits 1, or one line."""

@@ -51,11 +51,16 @@ def owners(label):
     return {c for c in crates if label in edits[c]}
 
 
+# The names that some file of specs/ declares.
+defined = {name for path in glob.glob("crates/*/specs/*.antt")
+           for name in re.findall(r"(?m)^(?:abbrev |unfoldable |pub )*(?:record |data |ruleset )?([^\s:]+)(?= |$)", read(path))}
+
+
 # ---- TRACE
 
 trace = read("docs/TRACE.md").split("\n## ", 1)[1]  # what stands above the first heading only says how to read the rest
 
-DEFINITION = r"(?<![\w*(])([a-z]+)/([A-Z]\w*)\.(?!md\b)([\w′-]+)"      # what ends in .md is a paper
+DEFINITION = r"(?<![\w*(])([a-z]+)/([A-Z]\w*)\.(?!md\b)([\w'-]+)"      # what ends in .md is a paper
 FUNCTION = r"\b([a-z]+)::(\w+)"
 
 for crate, file, name in re.findall(DEFINITION, trace):
@@ -66,11 +71,11 @@ for crate, name in re.findall(FUNCTION, trace):
     counts["functions"] += 1
     if not has_function(crate, name):
         wrong.append("TRACE: no function %s::%s" % (crate, name))
-for name, crate, file in re.findall(r"\*\*([\w′-]+)\*\* \(([a-z]+)/([A-Z]\w*)\)", trace):
+for name, crate, file in re.findall(r"\*\*([\w'-]+)\*\* \(([a-z]+)/([A-Z]\w*)\)", trace):
     counts["theorems"] += 1
     if not declares("crates/%s/proofs/%s.antt" % (crate, file), name):
         wrong.append("TRACE: no theorem %s in %s/proofs/%s" % (name, crate, file))
-for name in re.findall(r"\*\*([\w′-]+)\*\*(?! \([a-z]+/[A-Z])", trace):
+for name in re.findall(r"\*\*([\w'-]+)\*\*(?! \([a-z]+/[A-Z])", trace):
     wrong.append("TRACE: theorem %s without its place" % name)
 for number, row in enumerate(trace.split("\n")):
     named = {m[0] for m in re.findall(DEFINITION, row) + re.findall(FUNCTION, row)}
@@ -126,10 +131,10 @@ def tried_in(crate, text):
 contracts = read("docs/CONTRACTS.md")
 sections = re.findall(r"(?ms)^## ([^\n]+)\n(.*?)(?=^## |\Z)", contracts)
 for crate, text in sections:
-    if " " in crate:    # a section on several crates: its edits are written with their crates, or are of one crate only
+    if " " in crate:    # a section on several crates: its edits are written with their crates, or are of one crate only; it may name definitions
         for named, label in re.findall(LABEL, text):
             meant = {named} & owners(label) if named else owners(label)
-            if len(meant) != 1:
+            if len(meant) != 1 and (named or meant or label not in defined):
                 wrong.append("CONTRACTS: %s: `%s` is an edit of %s" % (crate, label, ", ".join(sorted(owners(label))) or "no crate"))
         continue
     if crate not in crates:

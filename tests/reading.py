@@ -47,11 +47,11 @@ def crate_of(path):
 # ---- the lines that must be believed
 
 def believed(text):
-    return len([l for l in text.split("\n") if l.strip() and not l.startswith(("use ", "--")) and not re.match(r"\s+--", l)])
+    return len([l for l in text.split("\n") if l.strip() and not l.startswith(("use ", "pub use ", "--")) and not re.match(r"\s+--", l)])
 
 
 def believed_rows(files):
-    crates = [l.split(":")[0] for l in read("crates.txt").split("\n") if ":" in l and not l.startswith("#")]
+    crates = [l.split(":")[0].split()[0] for l in read("crates.txt").split("\n") if ":" in l and not l.startswith("#")]
     return [("%s/%s" % (crate, path.split("/")[-1][:-5]), believed(files[path]))
             for crate in crates for path in sorted(files)
             if path.startswith("crates/%s/specs/" % crate) and not path.endswith("/Lib.antt")]
@@ -79,8 +79,9 @@ class Function:
         parameters = [p for p in split_outside(signature[1], ",") if p.strip()]
         self.lent = [k for k, p in enumerate(parameters) if re.match(r"&(?:'\w+ )?mut\b", p.split(":", 1)[1].strip())]
         self.result = (signature[2] or "").strip()
-        taken = {n.strip() for names in re.findall(r"(?m)^ghost use Rattle·\S*specs\S*\.\{(.*)\};$", source) for n in names.split(",")}
-        self.cited = taken & set(re.findall(r"\w+", head))      # the definitions of specs/ that its promises name
+        taken = {n.strip() for names in re.findall(r"(?m)^ghost use Rattle\.\w+\.specs\.\S+\.\{(.*)\};$", source) for n in names.split(",")}
+        clauses = re.sub(r"\b(requires|ensures)(\*?) \w+ \{", r"\1\2 {", head)          # without the names of clauses
+        self.cited = taken & set(re.findall(r"\w+", clauses))   # the definitions of specs/ that its promises name
 
     def full(self):
         return "%s::%s" % (self.crate, self.name)
@@ -89,11 +90,11 @@ class Function:
         """The equations that a uniqueness lemma owes: of the answer, and of what is lent, the k-th parameter at `.1` k times and `.0`."""
         equations = set()
         if self.result:
-            of = "now " if self.result.startswith("&") else ""
-            equations.add("%sr ≡ %sr′" % (of, of))
+            of = ".now" if self.result.startswith("&") else ""
+            equations.add("r%s ≡ r'%s" % (of, of))
         for k in self.lent:
-            place = " ".join([".1"] * k + [".0"])
-            equations.add("now (s %s) ≡ now (s′ %s)" % (place, place))
+            place = ".1" * k + ".0.now"
+            equations.add("s%s ≡ s'%s" % (place, place))
         return equations
 
 
@@ -131,7 +132,7 @@ def signatures(text):
     """Each public lemma of a Unique*.antt file: its name, its statement in one line, what stands between it and the lemma before, and whether
     it stands in no module."""
     found, at = [], 0
-    for m in re.finditer(r"(?m)^( *)pub (unique-\S+) : (.*(?:\n(?! *(?:unfolding |unique-|\n)).*)*)", text):
+    for m in re.finditer(r"(?m)^( *)pub (unique[-_]\S+) : (.*(?:\n(?! *(?:unfolding |unique[-_]|\n)).*)*)", text):
         between = text[at:m.start()]
         at = m.end()
         found.append((m[2], re.sub(r"\s+", " ", m[3]).strip(), between.split("\n\n", 1)[-1], m[1] == ""))
@@ -149,12 +150,12 @@ def equations_of(conclusion):
 
 
 def means_it(text):
-    """Whether `≡` and `now` are the library's in a file."""
-    return (re.search(r"(?m)^use mathlib\.Core\.Path\.\{(?:.*, )?_≡_(?:,.*)?\}$", text) and not re.search(r"(?m)^ *(?:pub |abbrev |unfoldable )*_≡_ ", text)
-            and (not re.search(r"\bnow\b", text) or re.search(r"(?m)^use denote\.Ref\.\{(?:.*, )?now(?:,.*)?\}$", text)))
+    """Whether `≡` is the library's in a file. `.now` always is: it is a field of what is lent."""
+    return (re.search(r"(?m)^use (?:mathlib\.Core\.Path|Rattle\.std\.specs\.Prelude|Rattle\.std\.proofs\.Common)\.\{(?:.*, )?◌≡◌(?:,.*)?\}$", text)
+            and not re.search(r"(?m)^ *(?:pub |abbrev |unfoldable )*◌≡◌ ", text) and not re.search(r"\bas ◌≡◌", text))
 
 
-GENERATED = "(κs : _) (a : _) (r r′ : _) (s s′ : _) → %s.Post κs a r s → %s.Post κs a r′ s′ → "
+GENERATED = "(κs : _) (a : _) (r r' : _) (s s' : _) → %s.Post κs a r s → %s.Post κs a r' s' → "
 
 
 def generated_lemmas(files):
@@ -163,7 +164,7 @@ def generated_lemmas(files):
     for path, text in files.items():
         if not re.match(r"crates/\w+/proofs/Unique\w*\.antt$", path) or not means_it(text):
             continue
-        for crate, function, alias in re.findall(r"(?m)^use Rattle·(\w+?)(?:·proofs)?\.proofs(?:\.proofs)?\.(\w+)\.Reads as (\S+)$", text):
+        for crate, function, alias in re.findall(r"(?m)^use Rattle\.(\w+)\.proofs\.(\w+)\.Reads as (\S+)$", text):
             start = GENERATED % (alias, alias)
             for name, statement, _, alone in signatures(text):
                 if alone and statement.startswith(start):
@@ -180,7 +181,7 @@ def written_lemmas(files):
             continue
         for name, statement, between, _ in signatures(text):
             for crate, function in re.findall(r"(?m)^ *-- the contract of `(\w+)::(\w+)`, written out", between):
-                if name == "unique-" + function.replace("wellacorn_", "").replace("_", "-"):
+                if name.replace("-", "_") == "unique_" + function.replace("wellacorn_", ""):
                     lemmas[crate, function] = (statement, set(re.findall(r"\w+", between + statement)))
     return lemmas
 
@@ -275,25 +276,25 @@ def blind(files, allowed):
         return unique_faults(changed, public_functions(changed))[0]
 
     words, seal, capi = "crates/words/proofs/Unique.antt", "crates/frames/proofs/Unique.antt", "crates/capi/proofs/Unique.antt"
-    take = "take.Post κs a r s → take.Post κs a r′ s′ → r ≡ r′"
-    sealed = "seal.Post κs a r s → seal.Post κs a r′ s′ → (r ≡ r′) × (now (s .0) ≡ now (s′ .0))"
-    passed = "Ends (passCall d row b) b₂ r₂\n    → (r₁ ≡ r₂) × (b₁ ≡ b₂)"
+    take = "take.Post κs a r s → take.Post κs a r' s' → r ≡ r'"
+    sealed = "seal.Post κs a r s → seal.Post κs a r' s' → (r ≡ r') × (s.0.now ≡ s'.0.now)"
+    passed = "Ends (pass_call d row b) b₂ r₂\n    → (r₁ ≡ r₂) × (b₁ ≡ b₂)"
     copies = [
         ("a lemma that concludes r ≡ r", words, take, take[:-1], unique),
-        ("a lemma that presumes what it concludes", words, take, "r ≡ r′ → " + take, unique),
-        ("a lemma on one answer twice", words, take, take.replace("r′ s′", "r s"), unique),
+        ("a lemma that presumes what it concludes", words, take, "r ≡ r' → " + take, unique),
+        ("a lemma on one answer twice", words, take, take.replace("r' s'", "r s"), unique),
         ("a lemma without what is lent", seal, sealed, sealed.split(" × ")[0], unique),
-        ("a lemma without the answer", seal, sealed, sealed.replace("(r ≡ r′) × (", "")[:-1], unique),
-        ("a lemma on another parameter", seal, sealed, sealed.replace(" .0", " .1 .0"), unique),
+        ("a lemma without the answer", seal, sealed, sealed.replace("(r ≡ r') × (", "")[:-1], unique),
+        ("a lemma on another parameter", seal, sealed, sealed.replace(".0.now", ".1.0.now"), unique),
         ("a lemma that is not there", words, "pub unique-take :", "pub lemma-take :", unique),
         ("a written contract without the board", capi, passed, passed.split(" × ")[0], unique),
         ("a written contract on another board", capi, passed, passed.replace("row b)", "row b₁)"), unique),
-        ("an equality of one's own", words, "use mathlib.Core.Path.{_≡_, sym", "use mathlib.Core.Path.{sym", unique),
+        ("an equality of one's own", words, "{◌≡◌, ", "{", unique),
         ("a function that is lent more", "crates/frames/src/lib.rt", "pub fn seal(", "pub fn seal(more: &mut [u8], ", unique),
         ("an axiom", words, "\npub unique-take :", "\naxiom pub given : ⊥\n\npub unique-take :", axiom_faults),
-        ("a hole", words, "unique-take κs a r r′ s s′ p q = p ∙ sym q", "unique-take κs a r r′ s s′ p q = ?", axiom_faults),
-        ("a named hole", words, "unique-take κs a r r′ s s′ p q = p ∙ sym q", "unique-take κs a r r′ s s′ p q = ?h", axiom_faults),
-        ("the axiom of choice", words, "use denote.Ref.{now}", "use denote.Ref.{now}\nuse Prim.Axiom.{ac as now-and-then}", axiom_faults),
+        ("a hole", words, "unique-take κs a r r' s s' p q = p ∙ sym q", "unique-take κs a r r' s s' p q = ?", axiom_faults),
+        ("a named hole", words, "unique-take κs a r r' s s' p q = p ∙ sym q", "unique-take κs a r r' s s' p q = ?h", axiom_faults),
+        ("the axiom of choice", words, "\nuse Rattle.words.proofs.take.Reads as take", "\nuse Prim.Axiom.{ac as now-and-then}\nuse Rattle.words.proofs.take.Reads as take", axiom_faults),
         ("a long line", words, "\npub unique-take :", "\n-- %s\npub unique-take :" % ("x" * 158), lambda changed: long_faults(changed, allowed)),
     ]
     return [what for what, path, old, new, check in copies if not seen(files, path, old, new, check)]

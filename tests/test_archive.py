@@ -1,7 +1,7 @@
 #!/usr/bin/env python3
-"""Tries what host/archive says of itself, on the module that it has kept: what it refuses, that it is the proved one, and that what it exports is what
-the header declares. Then that two watches see what they are there for: host/dirty.c finds out a library that looks above its arguments, and
-valgrind one that is lent less than it is told.
+"""Tries what host/archive says of itself: what it refuses, that it makes the same again, and that what the archives export is what the header declares.
+Then that two watches see what they are there for: host/dirty.c finds out a library that looks above its arguments, and valgrind one that is lent less
+than it is told.
 
 Both archives and the programs of host/build are there already (tests/compiled).
 """
@@ -10,7 +10,6 @@ import importlib.machinery
 import importlib.util
 import os
 import re
-import shutil
 import subprocess
 import sys
 import tempfile
@@ -27,11 +26,6 @@ loader.exec_module(archive)
 
 import traces      # noqa: E402 (it stands beside this file)
 
-KEPT = ROOT / "target" / archive.ARM
-MODULE = (KEPT / "module.ll").read_text()
-WORDS = (KEPT / "words").read_text().split()[1:]      # without the machine's
-X86_WORDS = list(archive.MACHINE_WORDS) + WORDS
-ARM_LINES = "target of no matter here"
 OWN = f"{os.uname().machine}-linux-gnu"
 
 
@@ -45,131 +39,109 @@ def why_refused(call, *arguments):
 
 
 # ---------------------------------------------------------------------------------------------
-# The module
+# What is made
 # ---------------------------------------------------------------------------------------------
 
-A_LINE = "\nstart:\n"
-LEVEL = "define noundef ptr @wellacorn_level(ptr noundef %a0, ptr noundef %a1, i8 noundef %a2, i8 noundef %a3) #0 {"
-POWER_UP = "define void @wellacorn_power_up(ptr noundef %a0, ptr noundef byval([256 x i8]) align 8 %a1) #0 {"
-
-# A module that is not known: what stands there, what is written for it, and what the refusal must name. The first place is taken.
-ODD = {
-    "another layout": ("n8:16:32:64-S128", "n8:16:32-S128", "target datalayout"),
-    "another machine": ("x86_64-unknown-linux-gnu", "x86_64-apple-darwin", "target triple"),
-    "a processor's features": ('"target-cpu"="x86-64"', '"target-cpu"="x86-64" "target-features"="+avx2"', "target-features"),
-    "another processor": ('"target-cpu"="x86-64"', '"target-cpu"="znver4"', "target-cpu"),
-    "another attribute": ('"probe-stack"="inline-asm"', '"frame-pointer"="all"', "frame-pointer"),
-    "another section": (") #0 {", ') section "slow" #0 {', "section"),
-    "inline assembly": (A_LINE, A_LINE + '  call void asm sideeffect "hlt", ""()\n', "asm"),
-    "assembly beside it": ("\ndefine ", '\nmodule asm "nop"\ndefine ', "module"),
-    "vectors": (" = urem i32 ", " = urem <4 x i32> ", "<"),
-    "wide integers": (" = urem i32 ", " = urem i128 ", "i128"),
-    "an odd integer": (" = urem i32 ", " = urem i24 ", "i24"),
-    "other numbers": (" = urem i32 ", " = frem double ", "frem"),
-    "a signed operation": (" = urem i32 ", " = srem i32 ", "srem"),
-    "a machine's own function": ("declare void @llvm.trap()", "declare void @llvm.x86.sse2.pause()", "@llvm.x86.sse2.pause"),
-    "a C function": ("declare void @llvm.trap()", "declare void @abort()", "@abort"),
-    "an atomic load": (" = load i", " = load atomic i", "atomic"),
-    "a volatile load": (" = load i", " = load volatile i", "volatile"),
-    "a load of what is known": (", !noundef !1", ", !tbaa !1", "!"),
-    "a global": ("\ndefine ", "\n@table = private constant [2 x i8] zeroinitializer\ndefine ", "@table"),
-    "a thread's own": ("\ndefine ", '\n@"a::b" = thread_local global i8 0\ndefine ', "thread_local"),
-    "another memory": ("alloca i16,", "alloca i16, addrspace(5),", "addrspace"),
-    "another convention": ("define internal noundef ", "define internal fastcc noundef ", "fastcc"),
-    "a struct by value inside": ("(i32 noundef %a0) #0 {", "(ptr byval([24 x i8]) %a0) #0 {", "byval"),
-    "a struct": (A_LINE, A_LINE + "  %s = alloca { i8, ptr }, align 8\n", "{"),
-    "an exported function called": ('call void @"capi::wellacorn_power_up"(', "call void @wellacorn_power_up(", "@wellacorn_power_up"),
-    "an exported bool": (LEVEL, LEVEL.replace("i8 noundef %a2", "i1 noundef zeroext %a2"), "wellacorn_level takes"),
-    "an exported number with a sign": (LEVEL, LEVEL.replace("i8 noundef %a2", "i8 noundef signext %a2"), "wellacorn_level takes"),
-    "exported arguments of any number": (LEVEL, LEVEL.replace("%a3)", "%a3, ...)"), "wellacorn_level takes"),
-    "an exported pair": (LEVEL, LEVEL.replace("noundef ptr @", "{ i64, i64 } @"), "wellacorn_level gives"),
-    "an exported pointer": ("  ret ptr %a0\n", "  ret ptr %a1\n", "gives what is not known here: noundef ptr"),
-    "a small struct taken": (POWER_UP, POWER_UP.replace("256", "16"), "wellacorn_power_up takes"),
-    "a struct at another alignment": (POWER_UP, POWER_UP.replace("align 8", "align 4"), "wellacorn_power_up takes"),
-    "other attributes of an exported function": (LEVEL, LEVEL.replace("#0", "#1"), "@wellacorn_level"),
+# What rt may say last of the library, for aarch64, and how it may end; and what the refusal must name, where it is one.
+VERDICT = "logic=proved functions=10 target=aarch64-unknown-linux-gnu sum=0123456789abcdef native=nat,char,string logic-built=trusted"
+ENDS = {
+    "proved": (VERDICT, 0, None),
+    "not proved": ("logic=not-proved", 1, "this failed in crates/capi: rt lib --target aarch64-unknown-linux-gnu --cpu generic"),
+    "not proved, and it ends well": ("logic=not-proved", 0, "logic=not-proved"),
+    "no verdict": ("nothing", 0, "none"),
+    "another machine": (VERDICT.replace("aarch64", "x86_64"), 0, "target=x86_64-unknown-linux-gnu"),
+    "another processor": (VERDICT.replace(" sum=", " cpu=neoverse-v2 sum="), 0, "cpu=neoverse-v2"),
+    "a verdict before the last": (f"{VERDICT}\nlogic=not-proved", 0, "logic=not-proved"),
 }
 
 
-class Refused(unittest.TestCase):
+def made_in(folder, said, status, below=0):
+    """Has host/archive make the archive for aarch64 in a folder that has an older one, of two crates, with an rt that says so of the upper one, and ends so.
+    Why it refuses, None where it does not.
+    """
+    for crate in "low", archive.CRATE:
+        (folder / "crates" / crate / "out").mkdir(parents=True)
+    (folder / "crates.txt").write_text(f"{archive.CRATE} staticlib: low check\nlow:\nhigh: low\n")
+    (folder / "rt").write_text(f"#!/bin/sh\ncase $PWD in */low) exit {below} ;; esac\nprintf '%s\\n' '{said}'\nprintf new >out/lib{archive.CRATE}.a\nexit {status}\n")
+    (folder / "rt").chmod(0o755)
+    for path in archive.archive_of(archive.ARM), archive.digest_of(archive.ARM), archive.BUILT:
+        (folder / path).parent.mkdir(parents=True, exist_ok=True)
+        (folder / path).write_text("old")
+    os.chdir(folder)
+    try:
+        with mock.patch.dict(os.environ, {"PATH": f"{folder}:{os.environ['PATH']}"}), open(os.devnull, "w", encoding="ascii") as nowhere, \
+                mock.patch.object(sys, "stderr", nowhere):
+            return why_refused(archive.make, [archive.ARM], "a digest")
+    finally:
+        os.chdir(ROOT)
 
-    def test_odd_modules(self):
-        self.assertIsNone(why_refused(archive.retargeted, MODULE, ARM_LINES))
-        for name, (old, new, said) in ODD.items():
-            self.assertTrue(old in MODULE, name)
-            why = why_refused(archive.retargeted, MODULE.replace(old, new, 1), ARM_LINES)
-            self.assertIsNotNone(why, f"{name} was not refused")
-            self.assertIn(said, why, name)
-        self.assertIn("exports nothing", why_refused(archive.retargeted, archive.EXPORTED.sub("", MODULE), ARM_LINES))
 
-    def test_odd_words(self):
-        self.assertIsNone(why_refused(archive.words_for, archive.ARM, WORDS))
-        for word in ("-mavx2", "-ffast-math", "-O2", "-march=x86-64-v3", "--target=i686-linux-gnu"):
-            self.assertIn(word, why_refused(archive.words_for, archive.ARM, WORDS + [word]) or "")
+class Made(unittest.TestCase):
 
     def test_nothing_is_made(self):
-        """Of a module with one number changed, which is not what was proved, nothing is made, and what was there is gone. Of the module itself the same
-        archive is made again.
-        """
-        self.assertEqual(1, MODULE.count(", 49153"))
-        for number, refused in ("49153", False), ("49154", True):
-            with tempfile.TemporaryDirectory() as folder:
-                why = made_in(Path(folder), MODULE.replace(", 49153", f", {number}"))
-                made = [Path(folder, path(archive.ARM)) for path in (archive.archive_of, archive.digest_of)]
-                self.assertEqual(refused, why is not None and "it is not what was proved" in why, why)
-                self.assertEqual([not refused] * 2, [path.exists() for path in made])
-                self.assertTrue(refused or made[0].read_bytes() == archive.archive_of(archive.ARM).read_bytes())
+        """Of what is not proved, and for this machine, nothing is made, and what was there is gone."""
+        tries = {**ENDS, "what it stands on is not proved": (VERDICT, 0, "this failed in crates/low: rt lib")}
+        for name, (said, status, refused) in tries.items():
+            with tempfile.TemporaryDirectory() as folder, self.subTest(name):
+                why = made_in(Path(folder), said, status, below=int(name not in ENDS))
+                self.assertEqual(refused is None, why is None, why)
+                self.assertIn(refused or "", why or "")
+                for path, new in (archive.archive_of(archive.ARM), "new"), (archive.digest_of(archive.ARM), "a digest"):
+                    made = Path(folder, path)
+                    self.assertEqual(new if refused is None else None, made.read_text() if made.exists() else None)
 
-    def test_plain_kit(self):
-        """The toolchain over the plain kit, with no script in clang's place, makes the same archive as the run that kept the module."""
-        kept = archive.archive_of(archive.X86).read_bytes()
-        archive.PROVED.unlink()
-        subprocess.run(["rt", "staticlib", archive.CRATE], stdout=subprocess.DEVNULL, check=True)
-        self.assertTrue(archive.PROVED.read_bytes() == kept)
+    def test_order(self):
+        """Each crate of the library comes behind those that it stands on, by crates.txt, and the library last."""
+        needs = archive.needs()
+        crates = list(needs)
+        self.assertGreater(len(crates), 30)
+        self.assertEqual(archive.CRATE, crates[-1])
+        for crate, below in needs.items():
+            self.assertTrue(all(crates.index(need) < crates.index(crate) for need in below), crate)
 
+    def test_same_again(self):
+        """The library proved and compiled once more is the same archive, for both machines, to the byte."""
+        for target in archive.TARGETS:
+            with open(os.devnull, "w", encoding="ascii") as nowhere, mock.patch.object(sys, "stderr", nowhere):
+                archive.BUILT.unlink(missing_ok=True)
+                archive.prove(target)
+            self.assertTrue(archive.BUILT.read_bytes() == archive.archive_of(target).read_bytes(), target)
 
-def made_in(folder, text):
-    """Has host/archive make the archive for aarch64 in a folder that has an older one, of a text in the place of the module that it would keep. Why it
-    refuses, None where it does not.
-    """
-    def text_of(kit, work):
-        (work / "module.ll").write_text(text)
-        return work / "module.ll"
-
-    for path in archive.PROVED, archive.archive_of(archive.ARM), archive.digest_of(archive.ARM):
-        (folder / path).parent.mkdir(parents=True, exist_ok=True)
-        shutil.copyfile(archive.archive_of(archive.X86), folder / path)
-    with mock.patch.object(archive, "keep_module", lambda kit, work: X86_WORDS), mock.patch.object(archive, "text_of", text_of):
-        os.chdir(folder)
-        try:
-            return why_refused(archive.make, [archive.ARM], "a digest")
-        finally:
-            os.chdir(ROOT)
+    def test_logic(self):
+        """Both archives say by which logic they are proved: the kit's."""
+        kit = subprocess.run(["rt", "version"], stdout=subprocess.PIPE, text=True, check=True).stdout.split()[-1]
+        for target in archive.TARGETS:
+            text = subprocess.run(["readelf", "-p", ".comment", archive.archive_of(target)], stdout=subprocess.PIPE, text=True, check=True).stdout
+            self.assertRegex(text, rf"rattle logic={kit}[0-9a-f]{{48}}\n", target)
 
 
 # ---------------------------------------------------------------------------------------------
 # What is exported
 # ---------------------------------------------------------------------------------------------
 
-LLVM_TYPES = {"uint8_t": "i8", "uint16_t": "i16", "uint32_t": "i32", "uint64_t": "i64", "wellacorn_settings": "byval"}
+C_TYPES = {"uint8_t": "u8", "uint16_t": "u16", "uint32_t": "u32", "uint64_t": "u64", "wellacorn_settings": "Settings", "wellacorn_done": "Done"}
 
 
 def declared():
-    """Each function that the header declares, as it must stand in the module for x86-64."""
+    """Each function that the header declares: what it takes, and what it gives."""
     header = re.sub(r"/\*.*?\*/", "", (ROOT / "host/wellacorn.h").read_text(), flags=re.S)
     found = {}
     for gives, name, takes in re.findall(r"^(void|wellacorn_done) (wellacorn_\w+)\(([^)]*)\);", header, re.M):
         parameters = [re.sub(r"\s+", " ", parameter).strip() for parameter in takes.split(",")]
-        kinds = ["ptr" if "*" in parameter or "[" in parameter else LLVM_TYPES[parameter.split()[0]] for parameter in parameters]
-        found[name] = ("void", kinds) if gives == "void" else ("ptr", ["ptr"] + kinds)
+        found[name] = (["pointer" if "*" in parameter or "[" in parameter else C_TYPES[parameter.split()[0]] for parameter in parameters],
+                       C_TYPES.get(gives, gives))
     return found
 
 
 def exported():
-    """Each function that the module exports."""
+    """Each function that the crate exports, as C sees it: what is lent is a pointer, and a slice its length besides."""
     found = {}
-    for gives, name, takes, _ in archive.EXPORTED.findall(MODULE):
-        kinds = ["byval" if "byval" in parameter else parameter.split()[0] for parameter in takes.split(", ")]
-        found[name] = (gives.split()[-1], kinds)
+    source = (ROOT / "crates" / archive.CRATE / "src/lib.rt").read_text()
+    for name, takes, gives in re.findall(r'#\[unsafe\(no_mangle\)\]\npub extern "C" fn (\w+)\((.*?)\)(?: -> (\w+))?\s', source, re.S):
+        kinds = []
+        for parameter in re.findall(r"\w+: ((?:&(?:mut )?\[+[^\]]*\][^,]*|\w+))", takes):
+            kinds += ["pointer", "u64"] if re.fullmatch(r"&(mut )?\[\w+\]", parameter) else ["pointer"] if parameter[0] == "&" else [parameter]
+        found[name] = (kinds, gives or "void")
     return found
 
 
@@ -178,14 +150,12 @@ class Exported(unittest.TestCase):
     def test_header(self):
         """What the header declares is exported, as it declares it; besides it the slow way of passing time, which the library keeps apart for speed."""
         functions = exported()
-        self.assertEqual(("i8", ["ptr", "ptr", "i64", "i32"]), functions.pop("wellacorn_pass_pulsed"))
+        names = set(functions)
+        self.assertEqual((["pointer", "pointer", "u64", "u32"], "u8"), functions.pop("wellacorn_pass_pulsed"))
         self.assertEqual(declared(), functions)
-
-    def test_papers(self):
-        """The papers say how many lines are changed."""
-        lines = (KEPT / f"{archive.ARM}.diff").read_text().count("\n@@ ")
-        self.assertIn(f"after {lines} lines of it", (ROOT / "README.md").read_text())
-        self.assertIn(f"host/archive changes, {lines} of some", (ROOT / "docs/READING.md").read_text())
+        for target in archive.TARGETS:
+            listed = subprocess.run(["nm", "-g", "--defined-only", archive.archive_of(target)], stdout=subprocess.PIPE, text=True, check=True).stdout
+            self.assertEqual(names, set(re.findall(r"^\w+ T (\w+)$", listed, re.M)), target)
 
     def test_undefined(self):
         """Of the C library both archives need memset and nothing else, as docs/HOST.md says."""
@@ -198,22 +168,34 @@ class Exported(unittest.TestCase):
 # Watches that must see
 # ---------------------------------------------------------------------------------------------
 
-def looking_function(function):
-    """An exported function that looks at what stands above its small arguments: what it takes for the argument is that and the argument."""
-    gives, name, takes, body = function.groups()
-    small = re.findall(r"i(8|16|32) noundef %a(\d+)", takes)
-    takes = re.sub(r"i(8|16|32) noundef %a(\d+)", r"i64 noundef %whole\2", takes)
-    looked = "".join(f"  %above{number} = lshr i64 %whole{number}, {width}\n  %both{number} = xor i64 %whole{number}, %above{number}\n"
-                     f"  %a{number} = trunc i64 %both{number} to i{width}\n" for width, number in small)
-    return f"define {gives} @{name}({takes}){body}".replace("start:\n", "start:\n" + looked)
+C_WIDE = {"pointer": "void *", "u8": "uint64_t", "u32": "uint64_t", "u64": "uint64_t", "Settings": "settings"}
+C_OWN = {**C_WIDE, "u8": "uint8_t", "u32": "uint32_t"}
+C_RESULT = {"Done": "done", "void": "void", "u8": "uint8_t"}
+
+
+def looking_text():
+    """In C, functions that look at what stands above their small arguments: what they take for the argument is that and the argument. Each calls the
+    library's own, under another name.
+    """
+    lines = ["#include <stdint.h>", "typedef struct { uint64_t words[32]; } settings;", "typedef struct { uint64_t taken, len, place; uint8_t answer; } done;"]
+    for name, (takes, gives) in exported().items():
+        wide = ", ".join(f"{C_WIDE[kind]} a{k}" for k, kind in enumerate(takes))
+        own = ", ".join(C_OWN[kind] for kind in takes)
+        width = {"u8": 8, "u32": 32}
+        given = ", ".join(f"({C_OWN[kind]})(a{k} ^ a{k} >> {width[kind]})" if kind in width else f"a{k}" for k, kind in enumerate(takes))
+        back = "" if gives == "void" else "return "
+        lines += [f"{C_RESULT[gives]} own_{name}({own});", f"{C_RESULT[gives]} {name}({wide}) {{ {back}own_{name}({given}); }}"]
+    return "\n".join(lines) + "\n"
 
 
 def looking(target, work):
-    """The library for a target, with functions that look above their arguments."""
-    text = (KEPT / ("module.ll" if target == archive.X86 else f"{archive.ARM}.ll")).read_text()
-    (work / "looking.ll").write_text(archive.EXPORTED.sub(looking_function, text))
-    archive.compiled(archive.Kit(), target, X86_WORDS, work / "looking.ll", work / "looking.o")
-    return work / "looking.o"
+    """The library for a target with such functions in front of it: what a program is linked with."""
+    tools = "" if target == OWN else f"{target}-"
+    (work / "looking.c").write_text(looking_text())
+    subprocess.run([os.environ.get("CC", "gcc") if target == OWN else f"{target}-gcc", "-std=c11", "-O1", "-c", "-o", work / "looking.o", work / "looking.c"], check=True)
+    renamed = [word for name in exported() for word in ("--redefine-sym", f"{name}=own_{name}")]
+    subprocess.run([f"{tools}objcopy", *renamed, ROOT / archive.archive_of(target), work / "own.a"], check=True)
+    return [work / "looking.o", work / "own.a"]
 
 
 class Watches(unittest.TestCase):
@@ -224,7 +206,7 @@ class Watches(unittest.TestCase):
             with tempfile.TemporaryDirectory() as work, self.subTest(target):
                 program = ROOT / "target/host/dirty-looking"
                 compiler = os.environ.get("CC", "gcc") if target == OWN else f"{target}-gcc"
-                subprocess.run([compiler, "-std=c11", "-O1", "-static", "-o", program, ROOT / "host/dirty.c", looking(target, Path(work))], check=True)
+                subprocess.run([compiler, "-std=c11", "-O1", "-static", "-o", program, ROOT / "host/dirty.c", *looking(target, Path(work))], check=True)
                 done = subprocess.run([ROOT / "host/exec", program.name, "20000"], stdout=subprocess.PIPE, text=True, check=False)
                 self.assertEqual(1, done.returncode)
                 differ = dict(re.findall(r"dirty: (\w+) .*?(\d+) differ", done.stdout))

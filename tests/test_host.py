@@ -1538,9 +1538,9 @@ class FirstStart(Case):
             return log.read().splitlines()
 
     def proof(self):
-        """The crates that are proved in their order, the library's own the last, and what the prover says: first of each but that one, then of all."""
+        """The crates that are proved in their order, the library's own the last, and what is said of them: of that one twice, once for each archive."""
         with open(os.path.join(ROOT, "crates.txt"), encoding="ascii") as file:
-            needs = {name: words.split() for name, words in (line.split(":") for line in file)}
+            needs = {name.split()[0]: words.split() for name, words in (line.split(":") for line in file)}
         crates = []
 
         def visit(crate):
@@ -1550,9 +1550,7 @@ class FirstStart(Case):
                 crates.append(crate)
 
         visit("capi")
-        said = [line for crate in crates[:-1] for line in (f"fn {crate}::part: proved", f"rt: {crate} proved (16 s)")]
-        said += [f"rt: ok, {len(crates) - 1} crates proved", *(f"rt: {crate} proved (unchanged since it was last proved)" for crate in crates[:-1]),
-                 "fn capi::wellacorn_close: proved", "rt: target/staticlib/libcapi.a has the functions of capi"]
+        said = [line for crate in [*crates, crates[-1]] for line in (f"fn {crate}::part: proved", "logic=proved functions=1", f"proved: {crate}")]
         return crates, said
 
     def script(self, said):
@@ -1576,17 +1574,17 @@ class FirstStart(Case):
 
     def test_nothing_to_prove(self):
         """Then nothing is said, and what the prover said last stays; with the next proof it is gone."""
-        self.shown(self.script(["rt: laws proved (1 s)"]), 0)
+        self.shown(self.script(["proved: laws"]), 0)
         self.assertEqual(self.shown("true", 0), [])
-        self.assertEqual(self.log(), ["rt: laws proved (1 s)"])
-        self.shown(self.script(["rt: numbers proved (1 s)"]), 0)
-        self.assertEqual(self.log(), ["rt: numbers proved (1 s)"])
+        self.assertEqual(self.log(), ["proved: laws"])
+        self.shown(self.script(["proved: numbers"]), 0)
+        self.assertEqual(self.log(), ["proved: numbers"])
 
     def test_failure(self):
         """The last lines that the prover said, where the rest is, and the status of what failed, a signal's too."""
         said = [f"line {index}" for index in range(100)]
-        lines = self.shown(self.script(said) + "echo host/archive: this failed: rt check; exit 7", 7)
-        self.assertEqual(lines[:-1], ["host/archive: this failed: rt check"] + said[60:])
+        lines = self.shown(self.script(said) + "echo host/archive: this failed in crates/laws: rt lib; exit 7", 7)
+        self.assertEqual(lines[:-1], ["host/archive: this failed in crates/laws: rt lib"] + said[60:])
         self.assertRegex(lines[-1], "it failed after .* s. These are the last lines .* target/prover.log$")
         self.assertEqual(self.log(), said)
         self.shown("kill -KILL $$", 128 + signal.SIGKILL)
@@ -1598,7 +1596,7 @@ class FirstStart(Case):
         os.mkfifo(gate)
         opened = os.open(gate, os.O_RDWR)
         seen, begun = b"", time.monotonic()
-        with self.progress(self.script(["rt: laws proved (1 s)", "rt: numbers proved (1 s)"]) + f"read <'{gate}'; exit 7", stderr=slave) as process:
+        with self.progress(self.script(["proved: laws", "proved: numbers"]) + f"read <'{gate}'; exit 7", stderr=slave) as process:
             os.close(slave)
             try:
                 while not re.search(rb"\(numbers\), [1-9]\d* s", seen):
