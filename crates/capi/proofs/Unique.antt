@@ -1,23 +1,17 @@
 -- For one input, two answers that a contract allows are equal, and so is what is left of what was lent.
 use mathlib.Core.Path.{◌≡◌, ap, sym, ◌∙◌}
-use mathlib.Core.List.{List}
-use Prim.Native.Nat.{ℕ}
-use lib.ListN.{length}
-use Rattle.rows.specs.Places.{Board}
-use Rattle.ring.specs.declared.Pulse.{Pulse}
-use Rattle.ring.specs.Ring.{row_after}
 use Rattle.pieces.specs.declared.Done.{Done}
-use Rattle.halves.specs.Halves.{Halves}
-use Rattle.pieces.specs.Effects.{Effect, Ends, Answers}
-use Rattle.pieces.specs.Pieces.{bytes_call, halves_after, rooms_after}
-use Rattle.filling.specs.Filling.{row_emptied}
-use Rattle.board.specs.Calls.{pass_call, passed_in, fill_call, empty_call}
 use Rattle.pieces.proofs.Same.{ends, answers, halved}
 use Rattle.capi.proofs.wellacorn_power_up.Reads as power-up
 use Rattle.capi.proofs.wellacorn_level.Reads as level
+use Rattle.capi.proofs.wellacorn_pass.Reads as pass
+use Rattle.capi.proofs.wellacorn_pass_pulsed.Reads as pass-pulsed
 use Rattle.capi.proofs.wellacorn_connect.Reads as connect
 use Rattle.capi.proofs.wellacorn_close.Reads as close
+use Rattle.capi.proofs.wellacorn_bytes.Reads as bytes
 use Rattle.capi.proofs.wellacorn_collect.Reads as collect
+use Rattle.capi.proofs.wellacorn_fill.Reads as fill
+use Rattle.capi.proofs.wellacorn_empty.Reads as empty
 
 pub unique-power-up : (κs : _) (a : _) (r r' : _) (s s' : _) → power-up.Post κs a r s → power-up.Post κs a r' s' → s.0.now ≡ s'.0.now
 unique-power-up κs a r r' s s' p q = p ∙ sym q
@@ -25,15 +19,11 @@ unique-power-up κs a r r' s s' p q = p ∙ sym q
 pub unique-level : (κs : _) (a : _) (r r' : _) (s s' : _) → level.Post κs a r s → level.Post κs a r' s' → (r ≡ r') × (s.0.now ≡ s'.0.now)
 unique-level κs a r r' s s' p q = ends p q
 
--- the contract of `capi::wellacorn_pass`, written out: its proof is a walk, which gives it no name
-pub unique-pass : (d : ℕ) (row : List Pulse) (b : Board) {b₁ b₂ : Board} {r₁ r₂ : Done} → Ends (pass_call d row b) b₁ r₁ → Ends (pass_call d row b) b₂ r₂
-    → (r₁ ≡ r₂) × (b₁ ≡ b₂)
-unique-pass d row b p q = ends p q
+pub unique-pass : (κs : _) (a : _) (r r' : _) (s s' : _) → pass.Post κs a r s → pass.Post κs a r' s' → (r ≡ r') × (s.0.now ≡ s'.0.now)
+unique-pass κs a r r' s s' p q = ends p q
 
--- the contract of `capi::wellacorn_pass_pulsed`, written out likewise
-pub unique-pass-pulsed : (d : ℕ) (row : List Pulse) (b : Board) {b₁ b₂ : Board} {n₁ n₂ : ℕ} → Ends (pass_call d row b) b₁ (passed_in n₁)
-    → Ends (pass_call d row b) b₂ (passed_in n₂) → (n₁ ≡ n₂) × (b₁ ≡ b₂)
-unique-pass-pulsed d row b p q = let same = ends p q in (ap (λ (r : Done). r.answer) same.0, same.1)
+pub unique-pass-pulsed : (κs : _) (a : _) (r r' : _) (s s' : _) → pass-pulsed.Post κs a r s → pass-pulsed.Post κs a r' s' → (r ≡ r') × (s.0.now ≡ s'.0.now)
+unique-pass-pulsed κs a r r' s s' p q = let same = ends p q in (ap (λ (d : Done). d.answer) same.0, same.1)
 
 pub unique-connect : (κs : _) (a : _) (r r' : _) (s s' : _) → connect.Post κs a r s → connect.Post κs a r' s'
     → (r ≡ r') × (s.0.now ≡ s'.0.now) × (s.1.0.now ≡ s'.1.0.now)
@@ -43,35 +33,22 @@ pub unique-close : (κs : _) (a : _) (r r' : _) (s s' : _) → close.Post κs a 
     → (r ≡ r') × (s.0.now ≡ s'.0.now) × (s.1.0.now ≡ s'.1.0.now)
 unique-close κs a r r' s s' p q = halved a.1.1.0 a.1.0.now p q
 
+-- an answer, and all that is lent, after the call: board, half-read messages, their room, the row of pulses and the reply buffer
+pub unique-bytes : (κs : _) (a : _) (r r' : _) (s s' : _) → bytes.Post κs a r s → bytes.Post κs a r' s'
+    → (r ≡ r') × (s.0.now ≡ s'.0.now) × (s.1.0.now ≡ s'.1.0.now) × (s.1.1.0.now ≡ s'.1.1.0.now) × (s.1.1.1.0.now ≡ s'.1.1.1.0.now) ×
+    (s.1.1.1.1.1.1.0.now ≡ s'.1.1.1.1.1.1.0.now)
+unique-bytes κs a r r' s s' p q =
+    let same = answers p.0 q.0 in
+    (same.0, same.1, p.1.0 ∙ sym q.1.0, p.1.1.0 ∙ sym q.1.1.0, p.1.1.1 ∙ sym q.1.1.1, same.2)
+
 pub unique-collect : (κs : _) (a : _) (r r' : _) (s s' : _) → collect.Post κs a r s → collect.Post κs a r' s'
     → (r ≡ r') × (s.0.now ≡ s'.0.now) × (s.1.1.0.now ≡ s'.1.1.0.now)
 unique-collect κs a r r' s s' p q = answers p q
 
--- the contract of `capi::wellacorn_fill`, written out likewise
-pub unique-fill : (place : ℕ) (row : List Pulse) (b : Board) {b₁ b₂ : Board} {r₁ r₂ : Done} → Ends (fill_call place (length row) b) b₁ r₁
-    → Ends (fill_call place (length row) b) b₂ r₂ → (r₁ ≡ r₂) × (b₁ ≡ b₂)
-unique-fill place row b p q = ends p q
+pub unique-fill : (κs : _) (a : _) (r r' : _) (s s' : _) → fill.Post κs a r s → fill.Post κs a r' s' → (r ≡ r') × (s.0.now ≡ s'.0.now)
+unique-fill κs a r r' s s' p q = ends p q
 
--- the contract of `capi::wellacorn_empty`, written out likewise: an answer, the board and the row, after the call
-pub unique-empty : (place : ℕ) (row : List Pulse) (b : Board) {b₁ b₂ : Board} {row₁ row₂ : List Pulse} {r₁ r₂ : Done}
-    → Ends (empty_call place (length row) b) b₁ r₁ × (row₁ ≡ row_emptied place b row)
-    → Ends (empty_call place (length row) b) b₂ r₂ × (row₂ ≡ row_emptied place b row) → (r₁ ≡ r₂) × (b₁ ≡ b₂) × (row₁ ≡ row₂)
-unique-empty place row b p q = let same = ends p.0 q.0 in (same.0, same.1, p.1 ∙ sym q.1)
-
-module _ (c : ℕ) (piece : List ℕ) (b : Board) (hs : Halves) (rooms : List ℕ) (row : List Pulse) (o : List ℕ) where
-  abbrev effect : Effect
-  effect = bytes_call c piece (length o) (length row) b hs rooms
-
-  -- the contract of `capi::wellacorn_bytes`, written out likewise: an answer, and all that is lent, after the call
-  pub record Said (b₁ : Board) (hs₁ : Halves) (rooms₁ : List ℕ) (row₁ : List Pulse) (o₁ : List ℕ) (r : Done) : Type 0 where
-    pub answered : Answers effect b₁ o o₁ r
-    pub halves : hs₁ ≡ halves_after c piece (length o) (length row) b hs rooms
-    pub roomed : rooms₁ ≡ rooms_after c piece (length o) (length row) b hs rooms
-    pub queued : row₁ ≡ row_after b effect.did.board row
-
-  pub unique-bytes : {b₁ b₂ : Board} {hs₁ hs₂ : Halves} {rooms₁ rooms₂ : List ℕ} {row₁ row₂ : List Pulse} {o₁ o₂ : List ℕ} {r₁ r₂ : Done}
-      → Said b₁ hs₁ rooms₁ row₁ o₁ r₁ → Said b₂ hs₂ rooms₂ row₂ o₂ r₂
-      → (r₁ ≡ r₂) × (b₁ ≡ b₂) × (hs₁ ≡ hs₂) × (rooms₁ ≡ rooms₂) × (row₁ ≡ row₂) × (o₁ ≡ o₂)
-  unique-bytes p q =
-      let same = answers p.answered q.answered in
-      (same.0, same.1, p.halves ∙ sym q.halves, p.roomed ∙ sym q.roomed, p.queued ∙ sym q.queued, same.2)
+-- an answer, the board and the row, after the call
+pub unique-empty : (κs : _) (a : _) (r r' : _) (s s' : _) → empty.Post κs a r s → empty.Post κs a r' s'
+    → (r ≡ r') × (s.0.now ≡ s'.0.now) × (s.1.0.now ≡ s'.1.0.now)
+unique-empty κs a r r' s s' p q = let same = ends p.0 q.0 in (same.0, same.1, p.1 ∙ sym q.1)
