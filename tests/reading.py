@@ -73,15 +73,12 @@ def page_faults(files, page):
 class Function:
     """A public function by its source: what it is lent as `&mut`, by its place among the parameters, and whether it gives something back."""
 
-    def __init__(self, crate, name, head, source):
+    def __init__(self, crate, name, head):
         self.crate, self.name, self.head = crate, name, head
         signature = re.match(r"(?s)\s*(?:<[^>]*>)?\s*\((.*?)\)\s*(?:->\s*(.*?))?\s*(?:requires\b.*|ensures\b.*|\Z)", head)
         parameters = [p for p in split_outside(signature[1], ",") if p.strip()]
         self.lent = [k for k, p in enumerate(parameters) if re.match(r"&(?:'\w+ )?mut\b", p.split(":", 1)[1].strip())]
         self.result = (signature[2] or "").strip()
-        taken = {n.strip() for names in re.findall(r"(?m)^ghost use Rattle\.\w+\.specs\.\S+\.\{(.*)\};$", source) for n in names.split(",")}
-        clauses = re.sub(r"\b(requires|ensures)(\*?) \w+ \{", r"\1\2 {", head)          # without the names of clauses
-        self.cited = taken & set(re.findall(r"\w+", clauses))   # the definitions of specs/ that its promises name
 
     def full(self):
         return "%s::%s" % (self.crate, self.name)
@@ -112,7 +109,7 @@ def split_outside(text, mark):
 
 
 def public_functions(files):
-    return [Function(crate_of(path), name, head, text) for path, text in files.items() if path.endswith(".rt")
+    return [Function(crate_of(path), name, head) for path, text in files.items() if path.endswith(".rt")
             for name, head in re.findall(r"(?ms)^\s*pub (?:extern \"C\" )?fn (\w+)(.*?)^\s*\{$", text)]
 
 
@@ -129,14 +126,9 @@ def promise_faults(functions):
 # ---- the uniqueness lemmas
 
 def signatures(text):
-    """Each public lemma of a Unique*.antt file: its name, its statement in one line, what stands between it and the lemma before, and whether
-    it stands in no module."""
-    found, at = [], 0
-    for m in re.finditer(r"(?m)^( *)pub (unique[-_]\S+) : (.*(?:\n(?! *(?:unfolding |unique[-_]|\n)).*)*)", text):
-        between = text[at:m.start()]
-        at = m.end()
-        found.append((m[2], re.sub(r"\s+", " ", m[3]).strip(), between.split("\n\n", 1)[-1], m[1] == ""))
-    return found
+    """Each public lemma of a Unique*.antt file: its name, its statement in one line, and whether it stands in no module."""
+    return [(m[2], re.sub(r"\s+", " ", m[3]).strip(), m[1] == "")
+            for m in re.finditer(r"(?m)^( *)pub (unique[-_]\S+) : (.*(?:\n(?! *(?:unfolding |unique[-_]|\n)).*)*)", text)]
 
 
 def equations_of(conclusion):
@@ -166,55 +158,21 @@ def generated_lemmas(files):
             continue
         for crate, function, alias in re.findall(r"(?m)^use Rattle\.(\w+)\.proofs\.(\w+)\.Reads as (\S+)$", text):
             start = GENERATED % (alias, alias)
-            for name, statement, _, alone in signatures(text):
+            for _, statement, alone in signatures(text):
                 if alone and statement.startswith(start):
                     lemmas[crate, function] = statement[len(start):]
     return lemmas
 
 
-def written_lemmas(files):
-    """A function over the lent row of pulses is proved by hand, which gives its contract no name: the lemma has it written out, under a line that
-    says whose it is. For each, the lemma's statement and the words of what it is written out in."""
-    lemmas = {}
-    for path, text in files.items():
-        if not re.match(r"crates/\w+/proofs/Unique\w*\.antt$", path) or not means_it(text):
-            continue
-        for name, statement, between, _ in signatures(text):
-            for crate, function in re.findall(r"(?m)^ *-- the contract of `(\w+)::(\w+)`, written out", between):
-                if name.replace("-", "_") == "unique_" + function.replace("wellacorn_", ""):
-                    lemmas[crate, function] = (statement, set(re.findall(r"\w+", between + statement)))
-    return lemmas
-
-
-def written_faults(f, statement, words):
-    faults = ["does not name %s, which its contract cites" % lost for lost in sorted(f.cited - words)]
-    pairs = re.findall(r"\{(\S+) (\S+) : [^{}]*\}", statement)
-    parts = [p.strip() for p in statement.split(" → ")]
-    if len(parts) < 3 or not pairs:
-        return faults + ["is not of the form: two that the contract allows, then what is equal"]
-    first, second, conclusion = parts[-3:]
-    first = re.sub(r"^.*\} (?=\S)", "", first) if len(parts) == 3 else first
-    other = dict(pairs)
-    if " ".join(other.get(w, w) for w in re.findall(r"[^\s()]+|[()]", first)) != " ".join(re.findall(r"[^\s()]+|[()]", second)):
-        faults.append("has two premises that are not one contract, told of two answers")
-    if equations_of(conclusion) != {"%s ≡ %s" % p for p in pairs}:
-        faults.append("does not equate all that it tells of two answers")
-    if len(pairs) != len(f.owed()):
-        faults.append("tells of %d things, and the function gives back or is lent %d" % (len(pairs), len(f.owed())))
-    return faults
-
-
 def unique_faults(files, functions):
-    generated, written, faults = generated_lemmas(files), written_lemmas(files), []
+    lemmas, faults = generated_lemmas(files), []
     for f in functions:
-        key = (f.crate, f.name)
-        if key in written:
-            faults += ["the uniqueness lemma for %s %s" % (f.full(), fault) for fault in written_faults(f, *written[key])]
-        elif key not in generated:
+        conclusion = lemmas.get((f.crate, f.name))
+        if conclusion is None:
             faults.append("no uniqueness lemma for %s" % f.full())
-        elif equations_of(generated[key]) != f.owed():
-            faults.append("the uniqueness lemma for %s concludes %s, and owes %s" % (f.full(), generated[key], " × ".join(sorted(f.owed()))))
-    return faults, len(written)
+        elif equations_of(conclusion) != f.owed():
+            faults.append("the uniqueness lemma for %s concludes %s, and owes %s" % (f.full(), conclusion, " × ".join(sorted(f.owed()))))
+    return faults
 
 
 # ---- axioms and holes
@@ -273,12 +231,12 @@ def seen(files, path, old, new, check):
 def blind(files, allowed):
     """The wrong copies that pass."""
     def unique(changed):
-        return unique_faults(changed, public_functions(changed))[0]
+        return unique_faults(changed, public_functions(changed))
 
     words, seal, capi = "crates/words/proofs/Unique.antt", "crates/frames/proofs/Unique.antt", "crates/capi/proofs/Unique.antt"
     take = "take.Post κs a r s → take.Post κs a r' s' → r ≡ r'"
     sealed = "seal.Post κs a r s → seal.Post κs a r' s' → (r ≡ r') × (s.0.now ≡ s'.0.now)"
-    passed = "Ends (pass_call d row b) b₂ r₂\n    → (r₁ ≡ r₂) × (b₁ ≡ b₂)"
+    passed = "pass.Post κs a r s → pass.Post κs a r' s' → (r ≡ r') × (s.0.now ≡ s'.0.now)"
     copies = [
         ("a lemma that concludes r ≡ r", words, take, take[:-1], unique),
         ("a lemma that presumes what it concludes", words, take, "r ≡ r' → " + take, unique),
@@ -287,8 +245,8 @@ def blind(files, allowed):
         ("a lemma without the answer", seal, sealed, sealed.replace("(r ≡ r') × (", "")[:-1], unique),
         ("a lemma on another parameter", seal, sealed, sealed.replace(".0.now", ".1.0.now"), unique),
         ("a lemma that is not there", words, "pub unique-take :", "pub lemma-take :", unique),
-        ("a written contract without the board", capi, passed, passed.split(" × ")[0], unique),
-        ("a written contract on another board", capi, passed, passed.replace("row b)", "row b₁)"), unique),
+        ("a lemma of the boundary without the board", capi, passed, passed.split(" × ")[0], unique),
+        ("a lemma of the boundary on two calls", capi, passed, passed.replace("κs a r' s'", "κs b r' s'"), unique),
         ("an equality of one's own", words, "{◌≡◌, ", "{", unique),
         ("a function that is lent more", "crates/frames/src/lib.rt", "pub fn seal(", "pub fn seal(more: &mut [u8], ", unique),
         ("an axiom", words, "\npub unique-take :", "\naxiom pub given : ⊥\n\npub unique-take :", axiom_faults),
@@ -311,15 +269,14 @@ def main():
         print("".join("%d %s\n" % (n, path) for path, n in long_lines(files).items()), end="")
         return 0
     wrong = page_faults(files, read("docs/READING.md")) + promise_faults(functions)
-    faults, written = unique_faults(files, functions)
-    wrong += faults + axiom_faults(files) + long_faults(files, allowed)
+    wrong += unique_faults(files, functions) + axiom_faults(files) + long_faults(files, allowed)
     wrong += ["this check does not see %s" % what for what in blind(files, allowed)]
     for line in wrong:
         print("reading:", line)
     if wrong:
         return 1
-    print("reading: %d believed lines in %d files; %d public functions, each with its uniqueness lemma, %d on a contract written out; no axiom, no hole; "
-          "%d lines over %d characters" % (total, len(rows), len(functions), written, sum(allowed.values()), LONGEST))
+    print("reading: %d believed lines in %d files; %d public functions, each with its uniqueness lemma; no axiom, no hole; "
+          "%d lines over %d characters" % (total, len(rows), len(functions), sum(allowed.values()), LONGEST))
     return 0
 
 
