@@ -2,7 +2,7 @@
 --     contract-power-up                                     the box begins as the entry point says
 --     contract-level, -pass, -connect, -close, -collect     an event's answer is the box's step
 --     contract-bytes                                        a piece's answer, and all that is lent to it after the call, are the box's step
--- Those of time and of bytes lend the row of pulses: their proofs are walks, which give a contract no name, so it is written out.
+-- Those of time, of places and of bytes lend the row of pulses and stand in capi, on which this crate does not rest: their contract is written out.
 -- A reply has at most 3,437 bytes (`answered-reply`, `monitor-reply`), so that the host reads it whole out of its buffer.
 use mathlib.Core.Path.{◌≡◌, refl, ap}
 use mathlib.Core.Bool.{Bool, true, false, cond}
