@@ -1,4 +1,4 @@
--- What the ms that are left lead to is what all ms do; each turn one pulse fewer waits.
+-- `capi::wellacorn_pass_pulsed`: what the ms that are left lead to is what all ms do; each turn one pulse fewer waits.
 use Rattle.pulses.proofs.Passing.{Passing, waiting}
 use Rattle.capi.proofs.wellacorn_pass_pulsed.Given as goal
 

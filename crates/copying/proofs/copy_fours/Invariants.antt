@@ -1,4 +1,4 @@
--- Four bytes more each turn.
+-- `copying::copy_fours`: four bytes more each turn.
 use Rattle.std.proofs.Common.{◌-◌, ◌≡◌, ◌≤◌, length, take}
 use Rattle.laws.specs.Put.{put}
 use Rattle.copying.proofs.copy_fours.Given as goal

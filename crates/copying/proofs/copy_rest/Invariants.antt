@@ -1,4 +1,4 @@
--- What is still to be copied gives, behind what is there, what all of it gives.
+-- `copying::copy_rest`: what is still to be copied gives, behind what is there, what all of it gives.
 use Rattle.std.proofs.Common.{◌-◌, ◌≡◌, ◌+◌, ◌≤◌, length, drop}
 use Rattle.laws.specs.Put.{put}
 use Rattle.copying.proofs.copy_rest.Given as goal

@@ -1,4 +1,4 @@
--- The rest of the bytes, after the sum so far, gives what the whole does.
+-- `crc::crc16`: the rest of the bytes, after the sum so far, gives what the whole does.
 use Rattle.std.proofs.Common.{◌-◌, ◌≡◌, ◌≤◌, length, drop}
 use Rattle.crc.specs.Crc.{crc_from, crc_of}
 use Rattle.crc.proofs.crc16.Given as goal

@@ -1,4 +1,4 @@
--- The rest of the bytes, after the sum so far, gives what all of them do.
+-- `crc::last_bytes`: the rest of the bytes, after the sum so far, gives what all of them do.
 use Rattle.std.proofs.Common.{◌-◌, ◌≡◌, length, drop}
 use Rattle.crc.specs.Crc.{crc_from}
 use Rattle.crc.proofs.last_bytes.Given as goal

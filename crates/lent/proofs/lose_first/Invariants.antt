@@ -1,4 +1,4 @@
--- The first k pulses of the queue have lost them.
+-- `lent::lose_first`: the first k pulses of the queue have lost them.
 use Rattle.std.proofs.Common.{◌-◌, ◌≡◌, ◌≤◌}
 use Rattle.filling.specs.Filling.{row_without}
 use Rattle.lent.proofs.lose_first.Given as goal

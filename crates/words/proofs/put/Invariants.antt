@@ -1,4 +1,4 @@
--- After j turns the j low bytes stand at the end of the field, and rest is v without them.
+-- `words::put`: after j turns the j low bytes stand at the end of the field, and rest is v without them.
 use Rattle.std.proofs.Common.{◌-◌, ◌≡◌, ◌+◌, ◌/◌, ◌^◌, ◌≤◌}
 use Rattle.laws.specs.Put.{put}
 use Rattle.words.specs.Words.{bytes_of}

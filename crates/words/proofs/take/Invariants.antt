@@ -1,4 +1,4 @@
--- What is left of the field, behind the v so far, stands for what the field does.
+-- `words::take`: what is left of the field, behind the v so far, stands for what the field does.
 use Rattle.std.proofs.Common.{◌-◌, ◌≡◌, ◌+◌, ◌^◌, ◌≤◌, ◌<◌, take, drop}
 use Rattle.words.specs.Words.{value_from, value_of}
 use Rattle.words.proofs.take.Given as goal
