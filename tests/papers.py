@@ -4,7 +4,8 @@ that they mean, every public function has its row, and every edit is named. And 
 Prints what is wrong and exits 1, or one line with the counts.
 
 An edit is written `label` in the section of its crate, `crate/label` elsewhere; in TRACE *label* or *crate/label*, where *label* alone has to be
-an edit of one crate only, or of a crate whose definitions or functions its row names."""
+an edit of one crate only, or of a crate whose definitions or functions its row names. In a section of CONTRACTS on several crates edits stand
+behind "tried as" and definitions elsewhere, which is tried on wrong copies of the page first."""
 import glob
 import os
 import re
@@ -49,11 +50,6 @@ edits = {c: {os.path.basename(p)[:-5] for p in glob.glob("crates/%s/must-fail/*.
 
 def owners(label):
     return {c for c in crates if label in edits[c]}
-
-
-# The names that some file of specs/ declares.
-defined = {name for path in glob.glob("crates/*/specs/*.antt")
-           for name in re.findall(r"(?m)^(?:abbrev |unfoldable |pub )*(?:record |data |ruleset )?([^\s:]+)(?= |$)", read(path))}
 
 
 # ---- TRACE
@@ -107,6 +103,7 @@ for line in re.findall(r'traces: ((?:"[^"]+"(?:, )?)+)', trace):
 # ---- CONTRACTS
 
 LABEL = r"`(?:([a-z]+)/)?([a-z][a-z0-9_]*)`"
+TRIED_AS = r"[Tt]ried as `[\w/]+`(?:, `[\w/]+`)*"
 
 
 def tried_in(crate, text):
@@ -128,14 +125,42 @@ def tried_in(crate, text):
     return found
 
 
+def crossing_faults(text):
+    """What is wrong with a section on several crates. Behind "tried as" stand edits, written with their crates or of one crate only; every other
+    name there that could be an edit's is a definition of a file of specs/ that the section names."""
+    faults = []
+    for named, label in re.findall(LABEL, " ".join(re.findall(TRIED_AS, text))):
+        meant = {named} & owners(label) if named else owners(label)
+        if len(meant) != 1:
+            faults.append("`%s` is an edit of %s" % (named + "/" + label if named else label, ", ".join(sorted(owners(label))) or "no crate"))
+    specs = ["crates/%s/specs/%s.antt" % place for place in re.findall(r"\b([a-z]+)/specs/([A-Z]\w*)", text)]
+    for named, label in re.findall(LABEL, re.sub(TRIED_AS, "", text)):
+        if named or not any(declares(path, label) for path in specs):
+            faults.append("`%s` is neither behind \"tried as\" nor a definition of %s" % (label, ", ".join(specs)))
+    return faults
+
+
+# What a section on several crates may have wrong, each tried on a copy of the page: what stands there, and what is written for it.
+CROSSED = [
+    ("a definition for an edit", "Tried as `nothing_joined`", "Tried as `as_one`"),
+    ("an edit that is not there", "`nothing_joined`, `taken_past_the_end`", "`nothing_joined`, `taken_past_its_end`"),
+    ("an edit of two crates", "`demand/one_half`", "`one_half`"),
+    ("an edit of another crate", "`demand/one_room`", "`halves/one_room`"),
+    ("a definition that is not there", "`as_one` takes", "`as_ones` takes"),
+    ("a definition of another file", "`widened_of` reads", "`step_of` reads"),
+]
+
 contracts = read("docs/CONTRACTS.md")
-sections = re.findall(r"(?ms)^## ([^\n]+)\n(.*?)(?=^## |\Z)", contracts)
+SECTION = r"(?ms)^## ([^\n]+)\n(.*?)(?=^## |\Z)"
+sections = re.findall(SECTION, contracts)
+for what, old, new in CROSSED:
+    if contracts.count(old) != 1:
+        wrong.append("CONTRACTS: no wrong copy with %s can be made: %r stands there %d times" % (what, old, contracts.count(old)))
+    elif not any(crossing_faults(text) for crate, text in re.findall(SECTION, contracts.replace(old, new)) if " " in crate):
+        wrong.append("CONTRACTS: this check does not see %s" % what)
 for crate, text in sections:
-    if " " in crate:    # a section on several crates: its edits are written with their crates, or are of one crate only; it may name definitions
-        for named, label in re.findall(LABEL, text):
-            meant = {named} & owners(label) if named else owners(label)
-            if len(meant) != 1 and (named or meant or label not in defined):
-                wrong.append("CONTRACTS: %s: `%s` is an edit of %s" % (crate, label, ", ".join(sorted(owners(label))) or "no crate"))
+    if " " in crate:
+        wrong += ["CONTRACTS: %s: %s" % (crate, fault) for fault in crossing_faults(text)]
         continue
     if crate not in crates:
         wrong.append("CONTRACTS: no crate %s" % crate)
@@ -164,7 +189,7 @@ for crate in crates:
 files = sorted(glob.glob("crates/*/specs/**/*.antt", recursive=True) + glob.glob("crates/*/proofs/**/*.antt", recursive=True))
 for path in files:
     parts = path.split("/")
-    first = "-- `%s::%s`" % (parts[1], "::".join(parts[3:-1])) if parts[-1] == "Proof.antt" else "-- "
+    first = "-- `%s::%s`" % (parts[1], "::".join(parts[3:-1])) if parts[2] == "proofs" and parts[-1] == "Answers.antt" else "-- "
     if parts[-1] != "Lib.antt" and not read(path).startswith(first):   # a Lib.antt only lists the others
         wrong.append("%s does not begin with %s" % (path, first if first != "-- " else "a comment that says what it is"))
 
