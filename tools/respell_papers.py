@@ -3,9 +3,13 @@
 
 usage: respell_papers.py OLD [--table] [--write] FILE..      OLD: the commit (or folder) before the respelling; run at the top of the repository
 
+A script of the port to today's Rattle (docs/PORT.md), of no use besides: it was run once, over README.md, CHANGELOG.md and docs/, behind respell.py,
+and stays so that what it did can be seen again. On the papers as they are now it changes nothing. Without --write it only tells what it would change.
+
 The table is made from the sources: of each file of specs/ and proofs/ that is on both sides, the declared names in their order; where as many are
-declared, the k-th of OLD is now the k-th. Names are turned in code spans, in fenced text, behind `crate/File.`, in **..**, and anywhere in prose where they
-cannot be English: with a capital inside, or a dash or an underscore. A name that is written in two ways now is shown and stays.
+declared, the k-th of OLD is now the k-th; a pair that is not one name in two spellings is shown. Names are turned in code spans, in fenced text, behind
+`crate/File.`, in **..**, and anywhere in prose where they cannot be English: with a capital inside, or a dash or an underscore. A name that is written
+in two ways now is shown and stays.
 """
 import glob
 import os
@@ -13,7 +17,6 @@ import re
 import subprocess
 import sys
 import collections
-
 
 
 def text_of(side, path):
@@ -74,13 +77,25 @@ def table(old):
     return rows, two, odd, found
 
 
+def bare(name):
+    """A name without what its spelling alone has."""
+    return re.sub(r"[-_'′]", "", name).lower()
+
+
 def main():
+    if len(sys.argv) < 2:
+        sys.exit(__doc__)
     old, files = sys.argv[1], [a for a in sys.argv[2:] if not a.startswith("--")]
     rows, two, odd, found = table(old)
     for path, a, b in odd:
         print(f"look: {path} declares {a} names before and {b} now", file=sys.stderr)
     for one, others in sorted(two.items()):
         print(f"look: {one} is now {dict(others)}", file=sys.stderr)
+    for one, other in sorted(rows.items()):
+        if bare(one) != bare(other):
+            print(f"look: {one} is now {other}, another name", file=sys.stderr)
+    if not rows:
+        sys.exit(f"respell_papers: every name is what it was at {old}")
     now = collections.defaultdict(set)
     for one, others in found.items():
         for other in others:
