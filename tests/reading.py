@@ -110,7 +110,7 @@ def split_outside(text, mark):
 
 def public_functions(files):
     return [Function(crate_of(path), name, head) for path, text in files.items() if path.endswith(".rt")
-            for name, head in re.findall(r"(?ms)^\s*pub (?:extern \"C\" )?fn (\w+)(.*?)^\s*\{$", text)]
+            for name, head in re.findall(r"(?ms)^\s*pub (?:extern \"C\" )?fn (\w+)(.*?)(?:^\s*| )\{$", text)]
 
 
 def promise_faults(functions):
@@ -233,9 +233,13 @@ def blind(files, allowed):
     def unique(changed):
         return unique_faults(changed, public_functions(changed))
 
+    def promises(changed):
+        return promise_faults(public_functions(changed))
+
     words, seal, capi = "crates/words/proofs/Unique.antt", "crates/frames/proofs/Unique.antt", "crates/capi/proofs/Unique.antt"
     take = "take.Post κs a r s → take.Post κs a r' s' → r ≡ r'"
     sealed = "seal.Post κs a r s → seal.Post κs a r' s' → (r ≡ r') × (s.0.now ≡ s'.0.now)"
+    bare = "pub fn bare(v: u8) -> u8%s{\n    v\n}\n\npub fn seal("
     passed = "pass.Post κs a r s → pass.Post κs a r' s' → (r ≡ r') × (s.0.now ≡ s'.0.now)"
     copies = [
         ("a lemma that concludes r ≡ r", words, take, take[:-1], unique),
@@ -249,6 +253,9 @@ def blind(files, allowed):
         ("a lemma of the boundary on two calls", capi, passed, passed.replace("κs a r' s'", "κs b r' s'"), unique),
         ("an equality of one's own", words, "{◌≡◌, ", "{", unique),
         ("a function that is lent more", "crates/frames/src/lib.rt", "pub fn seal(", "pub fn seal(more: &mut [u8], ", unique),
+        ("a function that promises nothing", "crates/frames/src/lib.rt", "pub fn seal(", bare % " ", promises),
+        ("a function that counts on its caller", "crates/frames/src/lib.rt", "pub fn seal(",
+         bare % "\n    requires { v ≤ 3 }\n    ensures { result ≡ v }\n", promises),
         ("an axiom", words, "\npub unique-take :", "\naxiom pub given : ⊥\n\npub unique-take :", axiom_faults),
         ("a hole", words, "unique-take κs a r r' s s' p q = p ∙ sym q", "unique-take κs a r r' s s' p q = ?", axiom_faults),
         ("a named hole", words, "unique-take κs a r r' s s' p q = p ∙ sym q", "unique-take κs a r r' s s' p q = ?h", axiom_faults),
