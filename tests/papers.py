@@ -1,7 +1,7 @@
 #!/usr/bin/env python3
 """Holds docs/TRACE.md and docs/CONTRACTS.md to the sources: every definition, function, theorem and edit that they name exists, in the crate
-that they mean, every public function has its row, and every edit is named. And every file of specs/ and proofs/ says first what it is.
-Prints what is wrong and exits 1, or one line with the counts.
+that they mean, every public function has its row, and every edit is named. And every file of specs/ and proofs/ says first what it is, and every
+file of a function's proof whose it is. Prints what is wrong and exits 1, or one line with the counts.
 
 An edit is written `label` in the section of its crate, `crate/label` elsewhere; in TRACE *label* or *crate/label*, where *label* alone has to be
 an edit of one crate only, or of a crate whose definitions or functions its row names. In a section of CONTRACTS on several crates edits stand
@@ -189,7 +189,7 @@ for crate in crates:
 files = sorted(glob.glob("crates/*/specs/**/*.antt", recursive=True) + glob.glob("crates/*/proofs/**/*.antt", recursive=True))
 for path in files:
     parts = path.split("/")
-    first = "-- `%s::%s`" % (parts[1], "::".join(parts[3:-1])) if parts[2] == "proofs" and parts[-1] == "Answers.antt" else "-- "
+    first = "-- `%s::%s`" % (parts[1], "::".join(parts[3:-1])) if parts[2] == "proofs" and len(parts) > 4 else "-- "
     if parts[-1] != "Lib.antt" and not read(path).startswith(first):   # a Lib.antt only lists the others
         wrong.append("%s does not begin with %s" % (path, first if first != "-- " else "a comment that says what it is"))
 
