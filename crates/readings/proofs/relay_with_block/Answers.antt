@@ -1,7 +1,6 @@
 -- `readings::relay_with_block`: on the first deck, or not.
 use mathlib.Core.Path.{sym, ap, ◌∙◌}
 use mathlib.Core.Bool.{Bool, cond}
-use Rattle.devices.specs.declared.Device.{Device}
 use Rattle.devices.specs.declared.Device.TheVariants.{Rout, Unknown}
 use Rattle.readings.proofs.relay_with_block.Goals as goal
 
