@@ -34,7 +34,8 @@ module _ (W : Serving) where
       (fed_store W x c p o).0.tables c ≡ true
       → (let ρ : Run = run_of 0 (x.halves c) (x.rooms c) p in
       ((fed_store W x c p o).0.halves c ≡ half_after ρ.fed.outcome) × ((fed_store W x c p o).0.rooms c ≡ ρ.room))
-  reads x c p none e u v = (simp (u, v, eq-eqb c c refl) refl, ap (λ (b : Bool). cond b (run_of 0 (x.halves c) (x.rooms c) p).room (x.rooms c)) (eq-eqb c c refl))
+  reads x c p none e u v =
+      (simp (u, v, eq-eqb c c refl) refl, ap (λ (b : Bool). cond b (run_of 0 (x.halves c) (x.rooms c) p).room (x.rooms c)) (eq-eqb c c refl))
   reads x c p (some a) e u v = let z : ◌≡◌ {A = ℕ} 0 1 = cc in absurd (omega arith)
 
   keeps : (x : Store W) (k : Call W) (c : ℕ) → feeds_to W c k ≡ false → W.is_open x.tables c ≡ true → W.is_open (store_call W x k).0.tables c ≡ true
