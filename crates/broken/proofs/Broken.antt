@@ -28,16 +28,17 @@ use Rattle.broken.specs.Broken.{field_cases, list_cases, broken_cases}
 use Rattle.cases.proofs.Starred.{Holds, both}
 
 field-layouts : Holds field_cases
-unfolding field_cases relay_at put_relay on_relay onward optionally finished of_reach in_range if_sized sized_request request_known judge_request judge_set_clock
-    on_channel if_lasting judge_pulse action_known judge_command judge_enumerate request_of set_clock_of command_of enumerate_of put fits number_at step_of first_of
-    after_of room_of run_of line_at put_line on_rows order_of opened_line marked connected obeyed served_content served_message powered_up half_at put_half
-    bytes_call halves_after rooms_after row_after queue_of follows_it frames_of filled on_present present moved_at
+unfolding field_cases relay_at put_relay on_relay onward optionally finished of_reach in_range if_sized sized_request request_known judge_request
+    judge_set_clock on_channel if_lasting judge_pulse action_known judge_command judge_enumerate request_of set_clock_of command_of enumerate_of put
+    fits number_at step_of first_of after_of room_of run_of line_at put_line on_rows order_of opened_line marked connected obeyed served_content
+    served_message powered_up half_at put_half bytes_call halves_after rooms_after row_after queue_of follows_it frames_of filled on_present present
+    moved_at
 field-layouts = record { rows = refl }
 
 list-layouts : Holds list_cases
-unfolding list_cases entries_length onward finished of_reach if_listed judge_read judge_write read_of write_of put fits number_at step_of first_of after_of room_of
-    run_of line_at put_line on_rows order_of opened_line marked connected obeyed served_content served_message powered_up half_at put_half bytes_call halves_after
-    rooms_after row_after queue_of follows_it frames_of filled
+unfolding list_cases entries_length onward finished of_reach if_listed judge_read judge_write read_of write_of put fits number_at step_of first_of
+    after_of room_of run_of line_at put_line on_rows order_of opened_line marked connected obeyed served_content served_message powered_up half_at
+    put_half bytes_call halves_after rooms_after row_after queue_of follows_it frames_of filled
 list-layouts = record { rows = refl }
 
 pub broken : map (λ (r : Row). r.does) broken_cases ≡ map (λ (r : Row). r.owes) broken_cases

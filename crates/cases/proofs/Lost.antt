@@ -103,15 +103,15 @@ abbrev count_one : Tables → ℕ
 count_one t = (input_at 1 t.board).count
 
 box-clocking : count_one (tables_of (ends settings halves rooms no_pulses clocking)) ≡ 1
-unfolding put fits number_at step_of first_of after_of room_of run_of input_at line_at put_input put_line clock_set on_rows on_input told level_of judge_set_clock
-    if_sized of_reach onward finished set_clock_of order_of marked_row marked opened_line leveled connected clock_told obeyed served_content served_message
-    powered_up half_at put_half bytes_call follows_it frames_of filled
+unfolding put fits number_at step_of first_of after_of room_of run_of input_at line_at put_input put_line clock_set on_rows on_input told level_of
+    judge_set_clock if_sized of_reach onward finished set_clock_of order_of marked_row marked opened_line leveled connected clock_told obeyed
+    served_content served_message powered_up half_at put_half bytes_call follows_it frames_of filled
 box-clocking = refl
 
 uncounting-clocking : count_one (tables_of (final served (box_with uncounting_call) up clocking)) ≡ 0
-unfolding put fits number_at step_of first_of after_of room_of run_of input_at line_at put_input put_line clock_set on_rows on_input told level_of judge_set_clock
-    if_sized of_reach onward finished set_clock_of order_of marked_row marked opened_line leveled connected clock_told obeyed served_content served_message
-    powered_up half_at put_half bytes_call follows_it frames_of filled
+unfolding put fits number_at step_of first_of after_of room_of run_of input_at line_at put_input put_line clock_set on_rows on_input told level_of
+    judge_set_clock if_sized of_reach onward finished set_clock_of order_of marked_row marked opened_line leveled connected clock_told obeyed
+    served_content served_message powered_up half_at put_half bytes_call follows_it frames_of filled
 uncounting-clocking = refl
 
 pub shut-out-uncounting : Demand3 served (box_with uncounting_call) up clocking → ⊥
@@ -142,13 +142,13 @@ pub shut-out-shared : Demand3 served (box_with shared_call) up crossing → ⊥
 shut-out-shared D = omega (arith, sym shared-crossing ∙ same_number shared_call 3 crossing D ∙ box-crossing)
 
 box-reopening : box_number 4 reopening ≡ 2
-unfolding put step_of first_of after_of room_of run_of line_at put_line on_rows opened_line connected closed served_message powered_up half_at put_half bytes_call
-    halves_after rooms_after row_after queue_of filled
+unfolding put step_of first_of after_of room_of run_of line_at put_line on_rows opened_line connected closed served_message powered_up half_at
+    put_half bytes_call halves_after rooms_after row_after queue_of filled
 box-reopening = refl
 
 keeping-reopening : number_with keeping_call 4 reopening ≡ 0
-unfolding put step_of first_of after_of room_of run_of line_at put_line on_rows opened_line connected closed served_message powered_up half_at put_half bytes_call
-    halves_after rooms_after row_after queue_of filled
+unfolding put step_of first_of after_of room_of run_of line_at put_line on_rows opened_line connected closed served_message powered_up half_at
+    put_half bytes_call halves_after rooms_after row_after queue_of filled
 keeping-reopening = refl
 
 pub shut-out-keeping : Demand3 served (box_with keeping_call) up reopening → ⊥

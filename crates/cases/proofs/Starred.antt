@@ -52,10 +52,10 @@ pub both : {xs ys : List Row} → Holds xs → Holds ys → Holds (xs ++ ys)
 both {xs} {ys} p q = record { rows = rw (map_both (λ (r : Row). r.does) xs ys, map_both (λ (r : Row). r.owes) xs ys, p.rows, q.rows) }
 
 count-top : Holds count_top
-unfolding count_top input_at put_input on_input told level_of device_of input_written write_input entries_length onward finished of_reach if_listed judge_write
-    write_of device_done written_from marked_row leveled put fits number_at step_of first_of after_of room_of run_of line_at put_line on_rows order_of opened_line
-    marked connected obeyed served_content served_message powered_up half_at put_half bytes_call halves_after rooms_after row_after queue_of follows_it frames_of
-    filled
+unfolding count_top input_at put_input on_input told level_of device_of input_written write_input entries_length onward finished of_reach if_listed
+    judge_write write_of device_done written_from marked_row leveled put fits number_at step_of first_of after_of room_of run_of line_at put_line
+    on_rows order_of opened_line marked connected obeyed served_content served_message powered_up half_at put_half bytes_call halves_after rooms_after
+    row_after queue_of follows_it frames_of filled
 count-top = record { rows = refl }
 
 told-again : Holds told_again
@@ -64,9 +64,10 @@ unfolding told_again input_at put_input on_input told level_of marked_row levele
 told-again = record { rows = refl }
 
 blocks : Holds block_cases
-unfolding block_cases any_below relay_at masked blocked_row block_of onward finished of_reach if_sized action_known judge_command command_of relays_of marked_row
-    monitors_sent collected put fits number_at step_of first_of after_of room_of run_of line_at put_line on_rows order_of opened_line marked connected obeyed
-    served_content served_message powered_up half_at put_half bytes_call halves_after rooms_after row_after queue_of follows_it frames_of filled moved_at
+unfolding block_cases any_below relay_at masked blocked_row block_of onward finished of_reach if_sized action_known judge_command command_of relays_of
+    marked_row monitors_sent collected put fits number_at step_of first_of after_of room_of run_of line_at put_line on_rows order_of opened_line
+    marked connected obeyed served_content served_message powered_up half_at put_half bytes_call halves_after rooms_after row_after queue_of
+    follows_it frames_of filled moved_at
 blocks = record { rows = refl }
 
 channels : Holds channel_edges
@@ -82,18 +83,18 @@ unfolding length_cases onward optionally finished of_reach sized_request request
 lengths = record { rows = refl }
 
 writes : Holds write_cases
-unfolding write_cases rows chunks input_at relay_at put_input alarm_state alarm_above alarm_at_or_above on_input device_of input_written write_input entries_length
-    onward finished of_reach if_listed judge_read judge_write read_of write_of inputs_of relays_of input_row monitor_reply input_block readings.block_of entry_of
-    ids_in devices_reply device_done written_from monitors_sent collected put fits number_at step_of first_of after_of room_of run_of line_at put_line on_rows
-    order_of opened_line marked connected obeyed served_content served_message powered_up half_at put_half bytes_call halves_after rooms_after row_after queue_of
-    follows_it frames_of filled
+unfolding write_cases rows chunks input_at relay_at put_input alarm_state alarm_above alarm_at_or_above on_input device_of input_written write_input
+    entries_length onward finished of_reach if_listed judge_read judge_write read_of write_of inputs_of relays_of input_row monitor_reply input_block
+    readings.block_of entry_of ids_in devices_reply device_done written_from monitors_sent collected put fits number_at step_of first_of after_of
+    room_of run_of line_at put_line on_rows order_of opened_line marked connected obeyed served_content served_message powered_up half_at put_half
+    bytes_call halves_after rooms_after row_after queue_of follows_it frames_of filled
 writes = record { rows = refl }
 
 strict : Holds strict_cases
-unfolding strict_cases bit_step bit_steps byte_step crc_from crc_of any_below relay_at masked blocked_row block_of onward finished of_reach if_sized action_known
-    judge_command command_of relays_of marked_row put fits number_at step_of first_of after_of room_of run_of line_at put_line on_rows order_of opened_line marked
-    connected closed obeyed served_content served_message powered_up half_at put_half bytes_call halves_after rooms_after row_after queue_of follows_it frames_of
-    filled moved_at
+unfolding strict_cases bit_step bit_steps byte_step crc_from crc_of any_below relay_at masked blocked_row block_of onward finished of_reach if_sized
+    action_known judge_command command_of relays_of marked_row put fits number_at step_of first_of after_of room_of run_of line_at put_line on_rows
+    order_of opened_line marked connected closed obeyed served_content served_message powered_up half_at put_half bytes_call halves_after rooms_after
+    row_after queue_of follows_it frames_of filled moved_at
 strict = record { rows = refl }
 
 pub starred : map (λ (r : Row). r.does) starred_cases ≡ map (λ (r : Row). r.owes) starred_cases

@@ -59,7 +59,8 @@ module _ {line o₀ : List ℕ} where
   pub unpack-start : Unpacking line o₀ o₀ 0 0
   unpack-start = record { in-range = omega arith; twice = refl; same = refl; bytes = refl; count = omega arith }
 
-  pub unpack-turn : {o : List ℕ} {i k x : ℕ} → Unpacking line o₀ o i k → 1 < length line - i → x ≡ digit_of (get_or line i 0) * 16 + digit_of (get_or line (i + 1) 0)
+  pub unpack-turn : {o : List ℕ} {i k x : ℕ} → Unpacking line o₀ o i k → 1 < length line - i
+      → x ≡ digit_of (get_or line i 0) * 16 + digit_of (get_or line (i + 1) 0)
       → Unpacking line o₀ (set o k x) (i + 2) (k + 1)
   unfolding put
   unpack-turn {o} {i} {k} {x} m h e =

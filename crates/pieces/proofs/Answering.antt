@@ -31,7 +31,8 @@ use Rattle.pieces.specs.Effects.{still, made_of, Answers}
 use Rattle.pieces.specs.Pieces.{answered, fed, fed_call}
 
 -- a content that is ready to be served at a call is served
-pub served-ready : (c : ℕ) (s : List ℕ) (room : ℕ) (p : Board) → is_open c p ≡ true → 4096 ≤ room → length s ≤ 1024 → served_call c s room p ≡ served_content c s p
+pub served-ready : (c : ℕ) (s : List ℕ) (room : ℕ) (p : Board) → is_open c p ≡ true → 4096 ≤ room → length s ≤ 1024
+    → served_call c s room p ≡ served_content c s p
 unfolding served_call
 served-ready c s room p o h l = rw (o, le-ltb room 4096 h, le-ltb 1024 (length s) l)
 

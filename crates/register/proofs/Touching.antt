@@ -116,7 +116,8 @@ before-lines : (n : ℕ) → n < first_line → (d : ℕ) → d < 4 → line_pla
 before-lines n h d l e = omega arith
 
 change : (from n : ℕ) (f : ℕ → List ℕ → List ℕ) (b : Board) → from + n ≤ first_line → Unmarked b (on_rows from n f b)
-change from n f b h = record { at = by_rows (with_marks false false) b (on_rows from n f b) (λ d l. ap unmarked (beyond from n (line_place d) f b (omega arith))) }
+change from n f b h =
+    record { at = by_rows (with_marks false false) b (on_rows from n f b) (λ d l. ap unmarked (beyond from n (line_place d) f b (omega arith))) }
 
 -- a store and a change of rows before the connections'
 connections-stay : Leaves Unmarked

@@ -8,6 +8,7 @@ use Rattle.filling.proofs.fill.Goals.{then-answer-eq-SERVED, else-answer-eq-SERV
 pub returns : goal.returns
 unfolding place_filled
 returns c = let a = c.args in elim c.if-answer-eq-SERVED.branch [
-  | then-answer-eq-SERVED w ↦ on-place filled_at a.records a.place c.judge_place-answer.ensures c.no_reply.ensures w.if-answer-eq-SERVED.true (w.board-is ∙ w.fill_place.ensures)
+  | then-answer-eq-SERVED w ↦
+      on-place filled_at a.records a.place c.judge_place-answer.ensures c.no_reply.ensures w.if-answer-eq-SERVED.true (w.board-is ∙ w.fill_place.ensures)
   | else-answer-eq-SERVED w ↦ off-place filled_at a.records a.place c.judge_place-answer.ensures c.no_reply.ensures w.if-answer-eq-SERVED.false w.board-is
 ]

@@ -27,8 +27,10 @@ returns-in-Whole c = let a = c.args in let b = a.board.now in
 
 -- too long
 pub returns-in-TooLong : goal.returns-in-TooLong
-returns-in-TooLong c = refused-so _ _ _ _ _ (judged-by _ _ _ {strict = is_strict c.args.c c.args.board.now} c.judge-j.ensures (cc) c.in-TooLong.is) refl c.no_reply.ensures
+returns-in-TooLong c =
+    refused-so _ _ _ _ _ (judged-by _ _ _ {strict = is_strict c.args.c c.args.board.now} c.judge-j.ensures (cc) c.in-TooLong.is) refl c.no_reply.ensures
 
 -- another checksum
 pub returns-in-BadSum : goal.returns-in-BadSum
-returns-in-BadSum c = refused-so _ _ _ _ _ (judged-by _ _ _ {strict = is_strict c.args.c c.args.board.now} c.judge-j.ensures (cc) c.in-BadSum.is) refl c.no_reply-in-BadSum.ensures
+returns-in-BadSum c =
+    refused-so _ _ _ _ _ (judged-by _ _ _ {strict = is_strict c.args.c c.args.board.now} c.judge-j.ensures (cc) c.in-BadSum.is) refl c.no_reply-in-BadSum.ensures

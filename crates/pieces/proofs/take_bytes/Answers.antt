@@ -17,17 +17,28 @@ feed_part-f-requires c = (open-below _ _ c.requires.0, c.requires.1)
 -- the message waits
 pub returns-in-Waiting : goal.returns-in-Waiting
 returns-in-Waiting c = let a = c.args in let ρ : Run = fed a.c a.piece.now a.halves.now a.rooms.now in
-    let e = fed-as a.c a.piece.now a.halves.now a.rooms.now c.half_at.ensures c.feed_part-f.ensures in record { answers = quietly a.c ρ a.board.now e.0 c.in-Waiting.is refl c.quiet.ensures; halves_after = c.keep_half.ensures ∙ rw e.0; rooms_after = e.1 }
+    let e = fed-as a.c a.piece.now a.halves.now a.rooms.now c.half_at.ensures c.feed_part-f.ensures in
+    record { answers = quietly a.c ρ a.board.now e.0 c.in-Waiting.is refl c.quiet.ensures; halves_after = c.keep_half.ensures ∙ rw e.0; rooms_after = e.1 }
 
 -- a keep-alive
 pub returns-in-KeepAlive : goal.returns-in-KeepAlive
 returns-in-KeepAlive c = let a = c.args in let ρ : Run = fed a.c a.piece.now a.halves.now a.rooms.now in
-    let e = fed-as a.c a.piece.now a.halves.now a.rooms.now c.half_at.ensures c.feed_part-f.ensures in record { answers = quietly a.c ρ a.board.now e.0 c.in-KeepAlive.is refl c.quiet-in-KeepAlive.ensures; halves_after = c.keep_half.ensures ∙ rw e.0; rooms_after = e.1 }
+    let e = fed-as a.c a.piece.now a.halves.now a.rooms.now c.half_at.ensures c.feed_part-f.ensures in
+    record {
+      answers = quietly a.c ρ a.board.now e.0 c.in-KeepAlive.is refl c.quiet-in-KeepAlive.ensures;
+      halves_after = c.keep_half.ensures ∙ rw e.0;
+      rooms_after = e.1;
+    }
 
 -- a stray byte
 pub returns-in-Stray : goal.returns-in-Stray
 returns-in-Stray c = let a = c.args in let ρ : Run = fed a.c a.piece.now a.halves.now a.rooms.now in
-    let e = fed-as a.c a.piece.now a.halves.now a.rooms.now c.half_at.ensures c.feed_part-f.ensures in record { answers = quietly a.c ρ a.board.now e.0 c.in-Stray.is refl c.quiet-in-Stray.ensures; halves_after = c.keep_half.ensures ∙ rw e.0; rooms_after = e.1 }
+    let e = fed-as a.c a.piece.now a.halves.now a.rooms.now c.half_at.ensures c.feed_part-f.ensures in
+    record {
+      answers = quietly a.c ρ a.board.now e.0 c.in-Stray.is refl c.quiet-in-Stray.ensures;
+      halves_after = c.keep_half.ensures ∙ rw e.0;
+      rooms_after = e.1;
+    }
 
 -- a message has ended: it is judged from the room as `feed` left it
 pub returns-in-Message : goal.returns-in-Message

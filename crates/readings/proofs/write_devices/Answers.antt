@@ -27,21 +27,24 @@ loop-k-init c = begin (length_ids _)
 
 pub write_input_entry-p-requires : goal.write_input_entry-p-requires
 write_input_entry-p-requires c =
-    let head : let a = c.args in Wrote 0 (bytes_of 1 22 ++ bytes_of 2 (id_count a.ids.now)) a.out.now c.put-p.new.out c.put-p.result = then (one 0 22 _) (stored (simp length-set (omega arith)) c.put-p.ensures) in
+    let head : let a = c.args in Wrote 0 (bytes_of 1 22 ++ bytes_of 2 (id_count a.ids.now)) a.out.now c.put-p.new.out c.put-p.result =
+    then (one 0 22 _) (stored (simp length-set (omega arith)) c.put-p.ensures) in
     let room : c.loop-k.p + 27 ≤ length c.loop-k.out = let m = c.loop-k.invariant in let w = head in
     omega (arith, c.loop-k-test.true, m.room, m.same, w.place, kept w, c.if-out-n.false, c.if-out-lt3.false) in
     room
 
 pub write_relay_entry-p-requires : goal.write_relay_entry-p-requires
 write_relay_entry-p-requires c =
-    let head : let a = c.args in Wrote 0 (bytes_of 1 22 ++ bytes_of 2 (id_count a.ids.now)) a.out.now c.put-p.new.out c.put-p.result = then (one 0 22 _) (stored (simp length-set (omega arith)) c.put-p.ensures) in
+    let head : let a = c.args in Wrote 0 (bytes_of 1 22 ++ bytes_of 2 (id_count a.ids.now)) a.out.now c.put-p.new.out c.put-p.result =
+    then (one 0 22 _) (stored (simp length-set (omega arith)) c.put-p.ensures) in
     let room : c.loop-k.p + 27 ≤ length c.loop-k.out = let m = c.loop-k.invariant in let w = head in
     omega (arith, c.loop-k-test.true, m.room, m.same, w.place, kept w, c.if-out-n.false, c.if-out-lt3.false) in
     omega (arith, room)
 
 pub write_entry_head-p-requires : goal.write_entry_head-p-requires
 write_entry_head-p-requires c =
-    let head : let a = c.args in Wrote 0 (bytes_of 1 22 ++ bytes_of 2 (id_count a.ids.now)) a.out.now c.put-p.new.out c.put-p.result = then (one 0 22 _) (stored (simp length-set (omega arith)) c.put-p.ensures) in
+    let head : let a = c.args in Wrote 0 (bytes_of 1 22 ++ bytes_of 2 (id_count a.ids.now)) a.out.now c.put-p.new.out c.put-p.result =
+    then (one 0 22 _) (stored (simp length-set (omega arith)) c.put-p.ensures) in
     let room : c.loop-k.p + 27 ≤ length c.loop-k.out = let m = c.loop-k.invariant in let w = head in
     omega (arith, c.loop-k-test.true, m.room, m.same, w.place, kept w, c.if-out-n.false, c.if-out-lt3.false) in
     omega (arith, room)
@@ -61,11 +64,13 @@ loop-k-preserved c =
 
 pub shape_of-out : goal.shape_of-out
 shape_of-out c =
-    let head : let a = c.args in Wrote 0 (bytes_of 1 22 ++ bytes_of 2 (id_count a.ids.now)) a.out.now c.put-p.new.out c.put-p.result = then (one 0 22 _) (stored (simp length-set (omega arith)) c.put-p.ensures) in
+    let head : let a = c.args in Wrote 0 (bytes_of 1 22 ++ bytes_of 2 (id_count a.ids.now)) a.out.now c.put-p.new.out c.put-p.result =
+    then (one 0 22 _) (stored (simp length-set (omega arith)) c.put-p.ensures) in
     c.loop-k.invariant.same ∙ kept (head)
 
 pub returns : goal.returns
 unfolding devices_reply
 returns c =
-    let head : let a = c.args in Wrote 0 (bytes_of 1 22 ++ bytes_of 2 (id_count a.ids.now)) a.out.now c.put-p.new.out c.put-p.result = then (one 0 22 _) (stored (simp length-set (omega arith)) c.put-p.ensures) in
+    let head : let a = c.args in Wrote 0 (bytes_of 1 22 ++ bytes_of 2 (id_count a.ids.now)) a.out.now c.put-p.new.out c.put-p.result =
+    then (one 0 22 _) (stored (simp length-set (omega arith)) c.put-p.ensures) in
     sent (omega (arith, c.if-out-n.false, c.if-out-lt3.false)) (then (head) (end c.loop-k.invariant c.loop-k-test.false))

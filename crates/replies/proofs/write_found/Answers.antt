@@ -25,7 +25,8 @@ loop-k-init c = begin (length-take-le _ devices (omega (arith, c.requires)))
 
 pub loop-k-preserved : goal.loop-k-preserved
 loop-k-preserved c =
-    let head : let a = c.args in Wrote 0 (bytes_of 1 27 ++ bytes_of 1 a.flags ++ bytes_of 2 a.count) a.out.now c.put-p.new.out c.put-p.result = then (then (one 0 27 _) (byte_of 1 _ _ (omega arith))) (stored (simp length-set (omega (arith, c.requires))) c.put-p.ensures) in
+    let head : let a = c.args in Wrote 0 (bytes_of 1 27 ++ bytes_of 1 a.flags ++ bytes_of 2 a.count) a.out.now c.put-p.new.out c.put-p.result =
+    then (then (one 0 27 _) (byte_of 1 _ _ (omega arith))) (stored (simp length-set (omega (arith, c.requires))) c.put-p.ensures) in
     let k = c.loop-k.k in let n = c.args.n in let h = c.loop-k-test.true in let w = head in
     let id = c.id_of.ensures ∙ ap id_of c.device_at.ensures in
     row-turn Unknown c.loop-k.invariant h (omega arith)
@@ -34,10 +35,12 @@ loop-k-preserved c =
 
 pub shape_of-out : goal.shape_of-out
 shape_of-out c =
-    let head : let a = c.args in Wrote 0 (bytes_of 1 27 ++ bytes_of 1 a.flags ++ bytes_of 2 a.count) a.out.now c.put-p.new.out c.put-p.result = then (then (one 0 27 _) (byte_of 1 _ _ (omega arith))) (stored (simp length-set (omega (arith, c.requires))) c.put-p.ensures) in
+    let head : let a = c.args in Wrote 0 (bytes_of 1 27 ++ bytes_of 1 a.flags ++ bytes_of 2 a.count) a.out.now c.put-p.new.out c.put-p.result =
+    then (then (one 0 27 _) (byte_of 1 _ _ (omega arith))) (stored (simp length-set (omega (arith, c.requires))) c.put-p.ensures) in
     c.loop-k.invariant.same ∙ kept (head)
 
 pub returns : goal.returns
 returns c =
-    let head : let a = c.args in Wrote 0 (bytes_of 1 27 ++ bytes_of 1 a.flags ++ bytes_of 2 a.count) a.out.now c.put-p.new.out c.put-p.result = then (then (one 0 27 _) (byte_of 1 _ _ (omega arith))) (stored (simp length-set (omega (arith, c.requires))) c.put-p.ensures) in
+    let head : let a = c.args in Wrote 0 (bytes_of 1 27 ++ bytes_of 1 a.flags ++ bytes_of 2 a.count) a.out.now c.put-p.new.out c.put-p.result =
+    then (then (one 0 27 _) (byte_of 1 _ _ (omega arith))) (stored (simp length-set (omega (arith, c.requires))) c.put-p.ensures) in
     then (head) (end c.loop-k.invariant c.loop-k-test.false)
