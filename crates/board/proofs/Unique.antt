@@ -9,9 +9,6 @@ use Rattle.board.proofs.collect.Reads as collect
 use Rattle.board.proofs.fill.Reads as fill
 use Rattle.board.proofs.empty.Reads as empty
 use Rattle.board.proofs.bytes.Reads as bytes
-use Rattle.board.proofs.done_of.Reads as done-of
-use Rattle.board.proofs.seat.Reads as seat
-use Rattle.board.proofs.pulse_of.Reads as pulse-of
 
 pub unique-board-level : (κs : _) (a : _) (r r' : _) (s s' : _) → level.Post κs a r s → level.Post κs a r' s' → (r ≡ r') × (s.0.now ≡ s'.0.now)
 unique-board-level κs a r r' s s' p q = ends p q
@@ -32,22 +29,11 @@ pub unique-board-collect : (κs : _) (a : _) (r r' : _) (s s' : _) → collect.P
 unique-board-collect κs a r r' s s' p q = answers p q
 
 pub unique-board-bytes : (κs : _) (a : _) (r r' : _) (s s' : _) → bytes.Post κs a r s → bytes.Post κs a r' s'
-    → (r ≡ r') × (s.0.now ≡ s'.0.now) × (s.1.0.now ≡ s'.1.0.now) × (s.1.1.0.now ≡ s'.1.1.0.now) ×
+    → (r ≡ r') × (s.0.now ≡ s'.0.now) × (s.1.0.now ≡ s'.1.0.now) × (s.1.1.0.now ≡ s'.1.1.0.now) × (s.1.1.1.0.now ≡ s'.1.1.1.0.now) ×
     (s.1.1.1.1.1.1.0.now ≡ s'.1.1.1.1.1.1.0.now)
 unique-board-bytes κs a r r' s s' p q =
     let same = answers p.0 q.0 in
-    let at : r.at ≡ r'.at = p.1.1.1.0 ∙ sym q.1.1.1.0 in
-    let pulse : r.pulse ≡ r'.pulse = p.1.1.1.1 ∙ sym q.1.1.1.1 in
-    ((λ i. record { done = same.0 i; at = at i; pulse = pulse i }), same.1, p.1.0 ∙ sym q.1.0, p.1.1.0 ∙ sym q.1.1.0, same.2)
-
-pub unique-board-done-of : (κs : _) (a : _) (r r' : _) (s s' : _) → done-of.Post κs a r s → done-of.Post κs a r' s' → r ≡ r'
-unique-board-done-of κs a r r' s s' p q = p ∙ sym q
-
-pub unique-board-seat : (κs : _) (a : _) (r r' : _) (s s' : _) → seat.Post κs a r s → seat.Post κs a r' s' → r ≡ r'
-unique-board-seat κs a r r' s s' p q = p ∙ sym q
-
-pub unique-board-pulse-of : (κs : _) (a : _) (r r' : _) (s s' : _) → pulse-of.Post κs a r s → pulse-of.Post κs a r' s' → r ≡ r'
-unique-board-pulse-of κs a r r' s s' p q = p ∙ sym q
+    (same.0, same.1, p.1.0 ∙ sym q.1.0, p.1.1.0 ∙ sym q.1.1.0, p.1.1.1 ∙ sym q.1.1.1, same.2)
 
 pub unique-board-fill : (κs : _) (a : _) (r r' : _) (s s' : _) → fill.Post κs a r s → fill.Post κs a r' s' → (r ≡ r') × (s.0.now ≡ s'.0.now)
 unique-board-fill κs a r r' s s' p q = ends p q

@@ -12,8 +12,8 @@ use Rattle.rows.specs.Places.{relay_at, line_at, put_relay, put_line, on_rows, q
 use Rattle.changes.specs.Answers.{on_relay}
 use Rattle.layouts.specs.Layouts.{onward, optionally, finished}
 use Rattle.orders.specs.Entries.{entries_length}
-use Rattle.judges.specs.Judges.{of_reach, in_range, if_sized, if_listed, sized_request, request_known, judge_request, on_channel, action_known}
-use Rattle.judges.specs.Judges.{judge_set_clock, if_lasting, judge_pulse, judge_command, judge_read, judge_write, judge_enumerate}
+use Rattle.orders.specs.Judges.{of_reach, in_range, if_sized, if_listed, sized_request, request_known, judge_request, on_channel, action_known}
+use Rattle.orders.specs.Judges.{judge_set_clock, if_lasting, judge_pulse, judge_command, judge_read, judge_write, judge_enumerate}
 use Rattle.orders.specs.Orders.{request_of, set_clock_of, enumerate_of, command_of, read_of, write_of, order_of}
 use Rattle.connections.specs.Lines.{opened_line, connected}
 use Rattle.marks.specs.Marks.{marked}

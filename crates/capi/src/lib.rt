@@ -1,6 +1,6 @@
 // The C boundary: one thin exported function for each entry point, under the names of host/wellacorn.h.
-// Board, halves and rooms go as pointers, a slice as pointer and length, settings and what a call came to by value. The lent row of pulses is
-// seen here and in the crate lent alone: what the board needs of it goes by value. Where no row is lent the contract is the board's own.
+// Board, halves and rooms go as pointers, a slice as pointer and length, settings and what a call came to by value. Into the lent row of pulses
+// the crate lent alone looks. The contract of a function is that of what it calls, but where time passes or a place is emptied.
 
 #![tactic(auto)]
 
@@ -16,11 +16,11 @@ ghost use Rattle.board.specs.Calls.{level_call, pass_call, passed_in, connect_ca
 use pieces::Done;
 use powerup::Settings;
 use ring::Pulse;
-use rows::ROWS;
+use rows::Board;
 
 // The box at power-up, with what the host sets.
 #[unsafe(no_mangle)]
-pub extern "C" fn wellacorn_power_up(board: &mut [[u64; 8]; ROWS], s: Settings)
+pub extern "C" fn wellacorn_power_up(board: &mut Board, s: Settings)
     ensures { board.new ≡ powered_up s }
 {
     powerup::power_up(board, s);
@@ -28,7 +28,7 @@ pub extern "C" fn wellacorn_power_up(board: &mut [[u64; 8]; ROWS], s: Settings)
 
 // Input k is told its level, 0 or 1.
 #[unsafe(no_mangle)]
-pub extern "C" fn wellacorn_level(board: &mut [[u64; 8]; ROWS], k: u8, v: u8) -> Done
+pub extern "C" fn wellacorn_level(board: &mut Board, k: u8, v: u8) -> Done
     ensures { Ends (level_call k v board.old) board.new result }
 {
     board::level(board, k, v)
@@ -36,39 +36,43 @@ pub extern "C" fn wellacorn_level(board: &mut [[u64; 8]; ROWS], k: u8, v: u8) ->
 
 // d ms have passed. Where no pulse ends in them the row is not looked into.
 #[unsafe(no_mangle)]
-pub extern "C" fn wellacorn_pass(board: &mut [[u64; 8]; ROWS], row: &[Pulse], d: u32) -> Done
+pub extern "C" fn wellacorn_pass(board: &mut Board, row: &[Pulse], d: u32) -> Done
     ensures { Ends (pass_call d row.now board.old) board.new result }
 {
-    let records = row.len();
-    let mut answer = pulses::at_once(board, records, d);
-    if answer == numbers::WAITING {
-        // copied here, or the compiler would store the row for this call in front of the test
-        let again = row;
-        answer = wellacorn_pass_pulsed(board, again, d);
-    }
+    let answer = match pulses::at_once(board, row.len(), d) {
+        Err(refusal) => refusal.number(),
+        Ok(false) => numbers::SERVED,
+        Ok(true) => {
+            // copied here, or the compiler would store the row for this call in front of the test
+            let again = row;
+            wellacorn_pass_pulsed(board, again, d)
+        }
+    };
     board::passed(answer)
 }
 
-// The same, by its answer: the row is looked into at the ends of pulses. No entry point of the header: it is exported so that the compiler keeps
-// it apart, and saves no register for it in a call in which no pulse ends.
+// The same, by its answer's number, as C has it: the row is looked into at the ends of pulses. No entry point of the header: it is exported so
+// that the compiler keeps it apart, and saves no register for it in a call in which no pulse ends.
 #[unsafe(no_mangle)]
-pub extern "C" fn wellacorn_pass_pulsed(board: &mut [[u64; 8]; ROWS], row: &[Pulse], d: u32) -> u8
+pub extern "C" fn wellacorn_pass_pulsed(board: &mut Board, row: &[Pulse], d: u32) -> u8
     ensures { Ends (pass_call d row.now board.old) board.new (passed_in result) }
 {
-    let records = row.len();
-    let mut t = pulses::time_of(board, records, d);
-    while pulses::going(t) {
-        let ending = lent::pulse_at(row, pulses::first_of(t));
-        let next = lent::pulse_at(row, pulses::next_of(t));
-        t = pulses::turn(board, ending, next, t);
+    let mut ending = match pulses::start(board, row.len(), d) {
+        Ok(ending) => ending,
+        Err(refusal) => return refusal.number(),
+    };
+    while let Some(end) = ending {
+        let running = lent::pulse_at(row, end.running);
+        let next = lent::pulse_at(row, end.next);
+        ending = pulses::turn(board, running, next, end.rest);
     }
-    pulses::answer_of(t)
+    numbers::SERVED
 }
 
 // Connection c is opened at a rank, strict or not.
 #[unsafe(no_mangle)]
 pub extern "C" fn wellacorn_connect(
-    board: &mut [[u64; 8]; ROWS],
+    board: &mut Board,
     halves: &mut [[u64; 3]; 4],
     c: u8,
     rank: u8,
@@ -82,11 +86,7 @@ pub extern "C" fn wellacorn_connect(
 
 // Connection c is closed.
 #[unsafe(no_mangle)]
-pub extern "C" fn wellacorn_close(
-    board: &mut [[u64; 8]; ROWS],
-    halves: &mut [[u64; 3]; 4],
-    c: u8,
-) -> Done
+pub extern "C" fn wellacorn_close(board: &mut Board, halves: &mut [[u64; 3]; 4], c: u8) -> Done
     ensures ends { Ends (close_call c board.old) board.new result }
     ensures halves_after { halves.new ≡ dropped c result.answer halves.old }
 {
@@ -96,7 +96,7 @@ pub extern "C" fn wellacorn_close(
 // Bytes of connection c.
 #[unsafe(no_mangle)]
 pub extern "C" fn wellacorn_bytes(
-    board: &mut [[u64; 8]; ROWS],
+    board: &mut Board,
     halves: &mut [[u64; 3]; 4],
     rooms: &mut [u8; 4096],
     row: &mut [Pulse],
@@ -109,17 +109,12 @@ pub extern "C" fn wellacorn_bytes(
     ensures rooms_after { rooms.new ≡ rooms_after c piece.now (length reply.old) (length row.old) board.old halves.old rooms.old }
     ensures row_after { row.new ≡ row_after board.old (bytes_call c piece.now (length reply.old) (length row.old) board.old halves.old rooms.old).did.board row.old }
 {
-    let records = row.len();
-    let t = board::bytes(board, halves, rooms, records, c, piece, reply);
-    let at = board::seat(t);
-    let p = board::pulse_of(t);
-    lent::put_pulse(row, at, p);
-    board::done_of(t)
+    board::bytes(board, halves, rooms, row, c, piece, reply)
 }
 
 // What is due is collected on connection c.
 #[unsafe(no_mangle)]
-pub extern "C" fn wellacorn_collect(board: &mut [[u64; 8]; ROWS], c: u8, reply: &mut [u8]) -> Done
+pub extern "C" fn wellacorn_collect(board: &mut Board, c: u8, reply: &mut [u8]) -> Done
     ensures { Answers (collect_call c (length reply.old) board.old) board.new reply.old reply.new result }
 {
     board::collect(board, c, reply)
@@ -127,25 +122,20 @@ pub extern "C" fn wellacorn_collect(board: &mut [[u64; 8]; ROWS], c: u8, reply: 
 
 // A place of the second deck is filled. Of the row its length is asked, and no record is looked at.
 #[unsafe(no_mangle)]
-pub extern "C" fn wellacorn_fill(board: &mut [[u64; 8]; ROWS], row: &[Pulse], place: u8) -> Done
+pub extern "C" fn wellacorn_fill(board: &mut Board, row: &[Pulse], place: u8) -> Done
     ensures { Ends (fill_call place (length row.now) board.old) board.new result }
 {
-    let records = row.len();
-    board::fill(board, records, place)
+    board::fill(board, row.len(), place)
 }
 
 // A place of the second deck is emptied: the pulses that stand lose its relays.
 #[unsafe(no_mangle)]
-pub extern "C" fn wellacorn_empty(
-    board: &mut [[u64; 8]; ROWS],
-    row: &mut [Pulse],
-    place: u8,
-) -> Done
+pub extern "C" fn wellacorn_empty(board: &mut Board, row: &mut [Pulse], place: u8) -> Done
     ensures ends { Ends (empty_call place (length row.old) board.old) board.new result }
     ensures row_after { row.new ≡ row_emptied place board.old row.old }
 {
     let records = row.len();
-    let q = rows::queue_of(board);
+    let q = board.queue();
     let n = filling::losing_of(board, records, place);
     lent::lose_first(row, q, n, place);
     board::empty(board, records, place)

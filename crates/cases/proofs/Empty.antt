@@ -24,7 +24,7 @@ use Rattle.words.specs.Words.{fits, number_at}
 use Rattle.steps.specs.Cut.{need, whole, cuts, messages, seen}
 use Rattle.changes.specs.Answers.{on_relay}
 use Rattle.layouts.specs.Layouts.{onward, optionally, finished}
-use Rattle.judges.specs.Judges.{of_reach, in_range, if_sized, sized_request, request_known, judge_request, on_channel, action_known, judge_command}
+use Rattle.orders.specs.Judges.{of_reach, in_range, if_sized, sized_request, request_known, judge_request, on_channel, action_known, judge_command}
 use Rattle.orders.specs.Orders.{command_of, order_of, request_of}
 use Rattle.rows.specs.Places.{relay_at, line_at, put_relay, put_line, on_rows, Board}
 use Rattle.ring.specs.declared.Pulse.{Pulse}

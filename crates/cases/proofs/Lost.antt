@@ -35,7 +35,7 @@ use Rattle.changes.specs.Answers.{on_input}
 use Rattle.edits.specs.Edits.{told}
 use Rattle.changes.specs.Levels.{level_of}
 use Rattle.layouts.specs.Layouts.{onward, finished}
-use Rattle.judges.specs.Judges.{of_reach, if_sized, judge_set_clock}
+use Rattle.orders.specs.Judges.{of_reach, if_sized, judge_set_clock}
 use Rattle.orders.specs.Orders.{set_clock_of, order_of}
 use Rattle.marks.specs.Marks.{marked_row, marked}
 use Rattle.plain.specs.Events.{leveled}

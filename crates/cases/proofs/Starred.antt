@@ -22,8 +22,8 @@ use Rattle.devices.specs.Devices.{device_of}
 use Rattle.changes.specs.Entries.{write_input}
 use Rattle.layouts.specs.Layouts.{onward, optionally, finished}
 use Rattle.orders.specs.Entries.{entries_length}
-use Rattle.judges.specs.Judges.{of_reach, in_range, if_sized, if_listed, sized_request, request_known, judge_request, on_channel, action_known}
-use Rattle.judges.specs.Judges.{judge_command, judge_read, judge_write}
+use Rattle.orders.specs.Judges.{of_reach, in_range, if_sized, if_listed, sized_request, request_known, judge_request, on_channel, action_known}
+use Rattle.orders.specs.Judges.{judge_command, judge_read, judge_write}
 use Rattle.orders.specs.Orders.{request_of, command_of, read_of, write_of, order_of}
 use Rattle.readings.specs.Readings as readings
 use Rattle.writers.specs.Writers.{inputs_of, relays_of}

@@ -1,7 +1,9 @@
 -- For one input, two answers that a contract allows are equal, and so are the boards after them.
 use mathlib.Core.Path.{◌≡◌, sym, ◌∙◌}
 use Rattle.rows.specs.Places.{Board}
-use Rattle.changes.specs.declared.Changed.{Changed}
+use Rattle.std.specs.Prelude.{Result}
+use Rattle.modules.specs.declared.Moved.{Moved}
+use Rattle.refusals.specs.declared.Refusal.{Refusal}
 use Rattle.changes.specs.Answers.{Change, Makes}
 use Rattle.changes.proofs.level.Reads as level
 use Rattle.changes.proofs.close_relay.Reads as close-relay
@@ -12,9 +14,8 @@ use Rattle.changes.proofs.clear_input_usage.Reads as clear-input-usage
 use Rattle.changes.proofs.clear_relay_usage.Reads as clear-relay-usage
 use Rattle.changes.proofs.write_input.Reads as write-input
 use Rattle.changes.proofs.write_relay.Reads as write-relay
-use Rattle.changes.proofs.refuse.Reads as refuse
 
-pub same : {m : Change} {b b' : Board} {r r' : Changed} → Makes m b r → Makes m b' r' → (r ≡ r') × (b ≡ b')
+pub same : {m : Change} {b b' : Board} {r r' : Result Moved Refusal} → Makes m b r → Makes m b' r' → (r ≡ r') × (b ≡ b')
 same p q = (p.gives ∙ sym q.gives, p.leaves ∙ sym q.leaves)
 
 pub unique-level : (κs : _) (a : _) (r r' : _) (s s' : _) → level.Post κs a r s → level.Post κs a r' s' → (r ≡ r') × (s.0.now ≡ s'.0.now)
@@ -51,6 +52,3 @@ unique-write-input κs a r r' s s' p q = same p q
 pub unique-write-relay : (κs : _) (a : _) (r r' : _) (s s' : _) → write-relay.Post κs a r s → write-relay.Post κs a r' s'
     → (r ≡ r') × (s.0.now ≡ s'.0.now)
 unique-write-relay κs a r r' s s' p q = same p q
-
-pub unique-refuse : (κs : _) (a : _) (r r' : _) (s s' : _) → refuse.Post κs a r s → refuse.Post κs a r' s' → r ≡ r'
-unique-refuse κs a r r' s s' p q = p ∙ sym q

@@ -1,44 +1,36 @@
 -- What a change of one input or relay answers: 01, Answer numbers, lines 1 and 11, and Events, 6.
-use Rattle.numbers.specs.Numbers as numbers
-use Rattle.std.specs.Prelude.{◌≡◌, Bool, cond, not, ℕ}
+use Rattle.std.specs.Prelude.{◌≡◌, Bool, cond, not, ℕ, Result, Ok, Err}
 use Rattle.std.specs.Bool.{beq}
 use Rattle.records.specs.declared.Input.{Input}
 use Rattle.records.specs.declared.Relay.{Relay}
 use Rattle.rows.specs.Places.{Board, is_channel, input_at, relay_at, put_input, put_relay}
 use Rattle.modules.specs.declared.Moved.{Moved}
 use Rattle.modules.specs.Modules.{unmoved, inner_moved, moved_at}
-use Rattle.changes.specs.declared.Changed.{Changed}
+use Rattle.refusals.specs.declared.Refusal.{Refusal}
+use Rattle.refusals.specs.declared.Refusal.TheVariants.{OutOfRange}
 
--- what a change comes to: the whole board then, 01's answer number, and what really changed: a level or a relay's state (01, Events, 6)
+-- what a change comes to: the whole board then, and what really changed, a level or a relay's state (01, Events, 6), or why it is refused
 pub record Change : Type 0 where
   pub board : Board
-  pub answer : ℕ
-  pub changed : Moved
-
--- what the call gives back of it
-abbrev pub given : Change → Changed
-given m = record { answer = m.answer; changed = m.changed }
+  pub outcome : Result Moved Refusal
 
 -- the board that the call leaves, and what it gives back
-pub record Makes (m : Change) (b : Board) (r : Changed) : Type 0 where
+pub record Makes (m : Change) (b : Board) (r : Result Moved Refusal) : Type 0 where
   pub leaves : b ≡ m.board
-  pub gives : r ≡ given m
+  pub gives : r ≡ m.outcome
 
--- 01, Answer numbers, line 11: something is out of range
-abbrev pub no_change : Changed
-no_change = record { answer = numbers.out_of_range; changed = unmoved }
-
--- 01, Answer numbers, line 1: served, and nothing of it really changed
-abbrev pub same_again : Changed
-same_again = record { answer = numbers.served; changed = unmoved }
+-- 01, Answer numbers, 6: what really changed; where it is refused nothing did
+abbrev pub moved_of : Result Moved Refusal → Moved
+moved_of (Ok moved) = moved
+moved_of (Err why) = unmoved
 
 -- 01, Answer numbers, line 1: served
 abbrev pub served : Moved → Board → Change
-served changed t = record { answer = numbers.served; changed = changed; board = t }
+served moved t = record { outcome = Ok moved; board = t }
 
--- 01, Answer numbers, line 11, and 6: refused, and no word of the board is another
+-- 01, Answer numbers, line 11, and 6: something is out of range, and no word of the board is another
 abbrev pub refused : Board → Change
-refused t = record { answer = numbers.out_of_range; changed = unmoved; board = t }
+refused t = record { outcome = Err OutOfRange; board = t }
 
 -- 01, Events, 6: a real change: the two are not equal
 abbrev pub differ : Bool → Bool → Bool

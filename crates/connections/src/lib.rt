@@ -3,34 +3,24 @@
 
 #![tactic(auto)]
 
-ghost use Rattle.std.specs.Prelude.{◌≡◌, ◌&&◌};
-ghost use Rattle.records.specs.Records.{shut_line};
-ghost use Rattle.answers.specs.Calls.{Gives};
+ghost use Rattle.std.specs.Prelude.{◌≡◌};
+ghost use Rattle.answers.specs.Calls.{concluded, Gives};
 ghost use Rattle.connections.specs.Lines.{opened_line, is_open, is_strict, connected, closed};
 
 use answers::Served;
 use records::Line;
-use rows::ROWS;
+use refusals::Refusal;
+use rows::Board;
 
 // A connection that is closed: everything of it is 0.
-fn shut() -> Line
-    ensures { result ≡ shut_line }
-{
-    Line {
-        is_open: false,
-        rank: 0,
-        monitor: false,
-        due: false,
-        strict: 0,
-        external: false,
-    }
-}
-
-fn both(a: bool, b: bool) -> bool
-    ensures { result ≡ a && b }
-{
-    if a { b } else { false }
-}
+const SHUT: Line = Line {
+    is_open: false,
+    rank: 0,
+    monitor: false,
+    due: false,
+    strict: 0,
+    external: false,
+};
 
 // A connection that was opened at a rank, with a module present or not. What the opening said of its strictness is kept as it is.
 #[tactic(auto, unfolding(crate::specs::Lines::opened_line))]
@@ -44,57 +34,61 @@ fn opened(rank: u64, strict: u64, present: bool) -> Line
         monitor: true,
         due,
         strict,
-        external: both(due, present),
+        external: due && present,
     }
 }
 
 // Whether c is a connection that is open.
-pub fn is_open(board: &[[u64; 8]; ROWS], c: u8) -> bool
+pub fn is_open(board: &Board, c: u8) -> bool
     ensures { result ≡ is_open c board.now }
 {
-    let line = rows::line_at(board, c as usize);
-    line.is_open
+    board.line_at(usize::from(c)).is_open
 }
 
 // Whether c is a connection that was opened as strict.
-pub fn is_strict(board: &[[u64; 8]; ROWS], c: u8) -> bool
+pub fn is_strict(board: &Board, c: u8) -> bool
     ensures { result ≡ is_strict c board.now }
 {
-    let line = rows::line_at(board, c as usize);
-    line.strict != 0
+    board.line_at(usize::from(c)).strict != 0
+}
+
+// An opening: first the number is judged, then whether it is open, then the rank.
+#[tactic(auto, unfolding(crate::specs::Lines::connected))]
+fn open(board: &mut Board, c: u8, rank: u8, strict: u8) -> Result<(), Refusal>
+    ensures { connected c rank strict board.old ≡ concluded result board.new }
+{
+    if 4 <= c {
+        return Err(Refusal::NoConnection);
+    }
+    if is_open(board, c) {
+        return Err(Refusal::AlreadyOpen);
+    }
+    if 2 < rank {
+        return Err(Refusal::BadRank);
+    }
+    let present = modules::has_module(board);
+    board.put_line(
+        usize::from(c),
+        opened(u64::from(rank), u64::from(strict), present),
+    );
+    Ok(())
 }
 
 // A connection is opened at a rank; strict is 0 for one that is not strict, and anything else for one that is.
-#[tactic(auto, unfolding(crate::specs::Lines::connected))]
-pub fn connect(board: &mut [[u64; 8]; ROWS], c: u8, rank: u8, strict: u8) -> Served
+pub fn connect(board: &mut Board, c: u8, rank: u8, strict: u8) -> Served
     ensures { Gives (connected c rank strict board.old) board.new result }
 {
-    if 4 <= c {
-        return answers::no_reply(numbers::NO_CONNECTION);
-    }
-    if is_open(board, c) {
-        return answers::no_reply(numbers::ALREADY_OPEN);
-    }
-    if 2 < rank {
-        return answers::no_reply(numbers::BAD_RANK);
-    }
-    let present = modules::has_module(board);
-    rows::put_line(
-        board,
-        c as usize,
-        opened(rank as u64, strict as u64, present),
-    );
-    answers::no_reply(numbers::SERVED)
+    answers::concluded(open(board, c, rank, strict))
 }
 
 // A connection is closed.
 #[tactic(auto, unfolding(crate::specs::Lines::closed))]
-pub fn close(board: &mut [[u64; 8]; ROWS], c: u8) -> Served
+pub fn close(board: &mut Board, c: u8) -> Served
     ensures { Gives (closed c board.old) board.new result }
 {
-    if is_open(board, c) {
-        rows::put_line(board, c as usize, shut());
-        return answers::no_reply(numbers::SERVED);
+    if !is_open(board, c) {
+        return answers::refused(Refusal::NoConnection);
     }
-    answers::no_reply(numbers::NO_CONNECTION)
+    board.put_line(usize::from(c), SHUT);
+    answers::concluded(Ok(()))
 }

@@ -1,14 +1,13 @@
 -- A byte of the input: what ends a line, what is kept, and the loop over the bytes of a read.
 use mathlib.Core.Path.{◌≡◌, refl, sym, ap, ◌∙◌}
-use mathlib.Core.Bool.{false, cond}
 use mathlib.Core.List.{List, [], ◌∷◌, ◌++◌, append-nil, append_assoc}
-use Prim.Native.Nat.{ℕ, ◌+◌, ◌*◌, ◌≤◌, ◌<◌, min, zero-le}
+use Prim.Native.Nat.{ℕ, ◌+◌, ◌*◌, ◌/◌, ◌%◌, ◌≤◌, ◌<◌, min, zero-le}
 use native.Mathlib.Nat.{add-zero}
 use native.Mathlib.Omega.{arith}
 use native.Mathlib.Numerals.{add-one}
 use borrow.Author.Tests.{leb-true, leb-false}
-use lib.Dec.{eqb, leb, ltb}
-use lib.ListN.{length, get_or, set, take}
+use lib.Dec.{eqb, leb}
+use lib.ListN.{length, get_or, take}
 use lib.Seq.{take-suc, take_all}
 use Rattle.laws.specs.Put.{put, Wrote}
 use Rattle.laws.proofs.Put.{then, kept as size-kept}
@@ -17,32 +16,37 @@ use Rattle.words.specs.Words.{Stored}
 use Rattle.words.proofs.Laws.{stored}
 use Rattle.rows.specs.Places.{Board}
 use Rattle.pieces.specs.declared.Done.{Done}
+use Rattle.pieces.specs.Effects.{Effect}
 use Rattle.halves.specs.Halves.{Halves}
 use Rattle.hexadecimal.specs.Digits.{all_relays, relay_bits, shown_of}
 use Rattle.console.specs.Lines.{shown}
-use Rattle.console.specs.Console.{Held, held, so_far, line_held, ended, kept, step, says, run, said}
+use Rattle.console.specs.Console.{Held, held, so_far, line_held, ended, step, says, run, said}
 use Rattle.console.proofs.Feeding.{FedLine}
+
+-- of an answer two digits are shown
+shown-low : (answer bits : ℕ) → shown_of (answer % 256) bits ≡ shown_of answer bits
+unfolding shown_of
+shown-low answer bits =
+    let high : answer % 256 / 16 % 16 ≡ answer / 16 % 16 = omega arith in
+    let low : answer % 256 / 1 % 16 ≡ answer / 1 % 16 = omega arith in
+    rw (high, low)
 
 module _ (h : Held) (len : ℕ) where
   -- the line's part of the store is fed, and its answer written
-  pub line-ended : (part : List ℕ) (d : Done) (b : Board) (hs : Halves) (rooms reply text out out' : List ℕ) (bits len' : ℕ) → part ≡ so_far h
-      → FedLine part h.board h.halves h.rooms h.reply b hs rooms reply d
-      → bits ≡ relay_bits (all_relays b) → text ≡ shown_of d.answer bits → Stored len text out out' len' → len + 7 ≤ length out
+  pub line-ended : (d : Done) (b : Board) (hs : Halves) (rooms reply text out out' : List ℕ) (bits len' : ℕ)
+      → FedLine (so_far h) h.board h.halves h.rooms h.reply b hs rooms reply d
+      → bits ≡ relay_bits (all_relays b) → text ≡ shown_of (d.answer % 256) bits → Stored len text out out' len' → len + 7 ≤ length out
       → (held b hs rooms h.line 0 reply ≡ ended h) × Wrote len (shown (line_held h)) out out' len'
   unfolding ended shown shown_of
-  line-ended part d b hs rooms reply text out out' bits len' p a e t w fits =
-      let f = rw p at a in
+  line-ended d b hs rooms reply text out out' bits len' f e t w fits =
       let long : length text ≡ 7 = ap length t in
-      let shows : text ≡ shown (line_held h) = t ∙ rw (e, f.0.gives, f.0.board) in
+      let shows : text ≡ shown (line_held h) = t ∙ shown-low d.answer bits ∙ rw (e, f.0.gives, f.0.board) in
       (rw (f.0.board, f.1.0, f.1.1, f.0.leaves), rw shows at (stored (omega arith) w))
 
-  -- a character that is no newline
-  pub byte-kept : (byte used : ℕ) (line out : List ℕ) → eqb byte 10 ≡ false → used ≡ cond (ltb h.used 2059) (h.used + 1) h.used
-      → line ≡ cond (ltb h.used 2059) (set h.line h.used byte) h.line
-      → (held h.board h.halves h.rooms line used h.reply ≡ step h byte) × Wrote len (says h byte) out out len
-  unfolding step says kept put
-  byte-kept byte used line out n u l =
-      (by_cases (ltb h.used 2059) (λ t. rw (n, u, l, t)) (λ f. rw (n, u, l, f)), rw n (record { bytes = refl; place = sym (add-zero len) }))
+-- where nothing is said, nothing is written
+pub nothing_wrote : (at : ℕ) (out : List ℕ) → Wrote at [] out out at
+unfolding put
+nothing_wrote at out = record { bytes = refl; place = sym (add-zero at) }
 
 -- ---- the bytes of a read
 
@@ -58,9 +62,14 @@ said-snoc h (x ∷ bs) b =
     ap (λ (l : List ℕ). says h x ++ l) (said-snoc (step h x) bs b)
     ∙ sym (append_assoc (says h x) (said (step h x) bs) (says (run (step h x) bs) b))
 
+-- an answer is seven characters
+pub shown-size : (e : Effect) → length (shown e) ≡ 7
+unfolding shown shown_of
+shown-size e = refl
+
 says-short : (h : Held) (b : ℕ) → length (says h b) ≤ 7
-unfolding says shown shown_of
-says-short h b = by_cases (eqb b 10) (λ t. rw t (omega arith)) (λ f. rw f (omega arith))
+unfolding says
+says-short h b = by_cases (eqb b 10) (λ t. rw t (omega (arith, shown-size (line_held h)))) (λ f. rw f (omega arith))
 
 -- the loop's invariant: i bytes are taken, h is held, and len bytes of output stand in o
 pub record Running (h₀ : Held) (input o₀ : List ℕ) (h : Held) (o : List ℕ) (len i : ℕ) : Type 0 where
@@ -88,12 +97,16 @@ module _ {h₀ : Held} {input o₀ : List ℕ} where
         same = size-kept w' ∙ m.same;
       }
 
-  -- all of the n bytes that there are
-  pub run-done : {h : Held} {o : List ℕ} {len i : ℕ} (n : ℕ) → Running h₀ input o₀ h o len i → i ≡ min n (length input)
-      → (h ≡ run h₀ (take n input)) × Wrote 0 (said h₀ (take n input)) o₀ o len
-  run-done {i = i} n m e =
-      let t : take i input ≡ take n input =
-      by_cases (leb n (length input))
-      (λ t. ap (λ (k : ℕ). take k input) {x = i} {y = n} (omega (arith, leb-true n (length input) t)))
-      (λ f. let h = leb-false n (length input) f in take_all i input (omega arith) ∙ sym (take_all n input (omega arith))) in
-      (rw t at m.so-far, rw t at m.wrote)
+  -- all bytes are taken
+  pub run-done : {h : Held} {o : List ℕ} {len i : ℕ} → Running h₀ input o₀ h o len i → length input ≤ i
+      → (h ≡ run h₀ input) × Wrote 0 (said h₀ input) o₀ o len × (len ≤ length input * 7)
+  run-done {i = i} m e =
+      let t : take i input ≡ input = take_all i input e in
+      (rw t at m.so-far, rw t at m.wrote, omega (arith, m.room, m.in-range))
+
+-- the first n bytes, or all that there are
+pub take-min : (n k : ℕ) (xs : List ℕ) → k ≡ min (length xs) n → take k xs ≡ take n xs
+take-min n k xs e =
+    by_cases (leb n (length xs))
+    (λ t. ap (λ (j : ℕ). take j xs) {x = k} {y = n} (omega (arith, leb-true n (length xs) t)))
+    (λ f. let h = leb-false n (length xs) f in take_all k xs (omega arith) ∙ sym (take_all n xs (omega arith)))

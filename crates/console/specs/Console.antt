@@ -20,8 +20,8 @@ pub record Held : Type 0 where
 abbrev pub held : Board → Halves → List ℕ → List ℕ → ℕ → List ℕ → Held
 held b hs rooms line used reply = record { board = b; halves = hs; rooms = rooms; line = line; used = used; reply = reply }
 
-abbrev pub held_of : Console → Board → Halves → List ℕ → List ℕ → List ℕ → Held
-held_of s b hs rooms line reply = held b hs rooms line s.used reply
+abbrev pub held_of : Console → Held
+held_of c = held c.board c.halves c.rooms c.line c.used c.reply
 
 -- the characters of the line so far
 abbrev pub so_far : Held → List ℕ

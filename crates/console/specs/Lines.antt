@@ -1,6 +1,5 @@
 -- The lines of the input, and what each of them does: 01, Console.
-use Rattle.std.specs.Prelude.{cond, List, [], ◌∷◌, ◌++◌, ℕ, eqb, replicate}
-use Rattle.std.proofs.Math.Option.{Option, none, some}
+use Rattle.std.specs.Prelude.{Option, None, Some, cond, List, [], ◌∷◌, ◌++◌, ℕ, eqb, replicate}
 use Rattle.answers.specs.Calls.{refused}
 use Rattle.steps.specs.Steps.{start}
 use Rattle.rows.specs.Places.{Board}
@@ -32,16 +31,16 @@ started_halves hs = put_half 0 start hs
 -- 01, Console, 3 and 4: a line is offered in one call, and nothing of it again; one that does not feed shows FF, 255.
 -- The reply buffer has 4,096 bytes; a row of 31 pulses is told, and none is kept, for no time passes here and none of its records is read.
 unfoldable pub offered : Option (List ℕ) → Board → Halves → List ℕ → Effect
-offered none b hs rooms = still (refused 255 b)
-offered (some piece) b hs rooms = bytes_call 0 piece 4096 31 b hs rooms
+offered None b hs rooms = still (refused 255 b)
+offered (Some piece) b hs rooms = bytes_call 0 piece 4096 31 b hs rooms
 
 unfoldable pub halves_offered : Option (List ℕ) → Board → Halves → List ℕ → Halves
-halves_offered none b hs rooms = hs
-halves_offered (some piece) b hs rooms = halves_after 0 piece 4096 31 b hs rooms
+halves_offered None b hs rooms = hs
+halves_offered (Some piece) b hs rooms = halves_after 0 piece 4096 31 b hs rooms
 
 unfoldable pub rooms_offered : Option (List ℕ) → Board → Halves → List ℕ → List ℕ
-rooms_offered none b hs rooms = rooms
-rooms_offered (some piece) b hs rooms = rooms_after 0 piece 4096 31 b hs rooms
+rooms_offered None b hs rooms = rooms
+rooms_offered (Some piece) b hs rooms = rooms_after 0 piece 4096 31 b hs rooms
 
 -- 01, Console, 3: what a line does, and the halves and rooms after it, in which what is half read waits
 unfoldable pub line_call : List ℕ → Board → Halves → List ℕ → Effect

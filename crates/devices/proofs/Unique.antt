@@ -1,10 +1,10 @@
 -- For one input, two answers that a contract allows are equal.
 use mathlib.Core.Path.{◌≡◌, sym, ◌∙◌}
-use Rattle.devices.proofs.device_of.Reads as device-of
-use Rattle.devices.proofs.id_of.Reads as id-of
+use Rattle.devices.proofs.Device.from_id.Reads as from-id
+use Rattle.devices.proofs.Device.id.Reads as id
 
-pub unique-device-of : (κs : _) (a : _) (r r' : _) (s s' : _) → device-of.Post κs a r s → device-of.Post κs a r' s' → r ≡ r'
-unique-device-of κs a r r' s s' p q = p ∙ sym q
+pub unique-from-id : (κs : _) (a : _) (r r' : _) (s s' : _) → from-id.Post κs a r s → from-id.Post κs a r' s' → r ≡ r'
+unique-from-id κs a r r' s s' p q = p ∙ sym q
 
-pub unique-id-of : (κs : _) (a : _) (r r' : _) (s s' : _) → id-of.Post κs a r s → id-of.Post κs a r' s' → r ≡ r'
-unique-id-of κs a r r' s s' p q = p ∙ sym q
+pub unique-id : (κs : _) (a : _) (r r' : _) (s s' : _) → id.Post κs a r s → id.Post κs a r' s' → r ≡ r'
+unique-id κs a r r' s s' p q = p ∙ sym q

@@ -1,16 +1,18 @@
 -- The second deck's places are filled and emptied. Document 02, M-102.
-use Rattle.numbers.specs.Numbers as numbers
-use Rattle.std.specs.Prelude.{true, false, cond, not, ◌&&◌, List, [], ℕ, zero, suc, ◌+◌, ◌*◌, ◌/◌, ◌%◌, ◌^◌, eqb, length, set}
+use Rattle.std.specs.Prelude.{true, false, cond, not, ◌&&◌, List, ℕ, zero, suc, ◌+◌, ◌*◌, ◌/◌, ◌%◌, ◌^◌, eqb, length, set, Result, Ok, Err, is_ok}
 use Rattle.records.specs.declared.Queue.{Queue}
 use Rattle.rows.specs.Places.{Board, queue_of}
 use Rattle.modules.specs.Modules.{is_place, filled, place_set, has_module}
-use Rattle.changes.specs.Answers.{Change}
+use Rattle.changes.specs.Answers.{Change, moved_of}
 use Rattle.blocks.specs.Blocks.{block_of}
 use Rattle.marks.specs.Marks.{marked, external_cleared}
 use Rattle.ring.specs.declared.Pulse.{Pulse}
 use Rattle.ring.specs.Ring.{pulse_of, pulse_at, standing, place}
 use Rattle.pulses.specs.Pulses.{short_row}
-use Rattle.answers.specs.Calls.{Did, did}
+use Rattle.refusals.specs.declared.Refusal.{Refusal}
+use Rattle.refusals.specs.declared.Refusal.TheVariants.{ShortBuffer, OutOfRange}
+use Rattle.refusals.specs.Refusals.{answer_of}
+use Rattle.answers.specs.Calls.{Did, concluded}
 
 -- 02, M-102, 1: the relays of a place's module as a mask, the lowest bit relay 1: 9 to 12 are place one's, 13 to 16 place two's
 abbrev pub module_mask : ℕ → ℕ
@@ -33,15 +35,19 @@ last_gone b = cond (has_module b) b (external_cleared b)
 unfoldable pub emptied_at : ℕ → Board → Board
 emptied_at p b =
     let m : Change = opened p b in
-    cond (filled p b) (last_gone (marked m.changed (place_set p false m.board))) b
+    cond (filled p b) (last_gone (marked (moved_of m.outcome) (place_set p false m.board))) b
 
--- 02, M-102, 12: 4 for a row under 31 records, then 11 for another place, else 1
+-- 02, M-102, 12: refused for a row under 31 records, then for another place
+abbrev pub place_judged : ℕ → ℕ → Result Unit Refusal
+place_judged records p = cond (short_row records) (Err ShortBuffer) (cond (is_place p) (Ok tt) (Err OutOfRange))
+
+-- 02, M-102, 12: 4 for such a row, 11 for such a place, else 1
 abbrev pub place_answer : ℕ → ℕ → ℕ
-place_answer records p = cond (short_row records) numbers.short_buffer (cond (is_place p) numbers.served numbers.out_of_range)
+place_answer records p = answer_of (place_judged records p)
 
 -- a place becomes what f makes of it, where nothing refuses the call; no reply
 abbrev pub on_place : (ℕ → Board → Board) → ℕ → ℕ → Board → Did
-on_place f records p b = did (cond (eqb (place_answer records p) numbers.served) (f p b) b) (place_answer records p) []
+on_place f records p b = concluded (place_judged records p) (cond (is_ok (place_judged records p)) (f p b) b)
 
 -- 02, M-102, 1 and 12: a place is filled, or emptied
 unfoldable pub place_filled : ℕ → ℕ → Board → Did

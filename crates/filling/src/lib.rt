@@ -5,12 +5,13 @@
 #![tactic(auto)]
 
 ghost use Rattle.std.specs.Prelude.{◌≡◌};
-ghost use Rattle.answers.specs.Calls.{Gives};
-ghost use Rattle.filling.specs.Filling.{module_mask, place_answer, filled_at, last_gone, emptied_at, place_filled, place_emptied, losing, without, lost};
+ghost use Rattle.answers.specs.Calls.{concluded, Gives};
+ghost use Rattle.filling.specs.Filling.{module_mask, place_judged, filled_at, last_gone, emptied_at, place_filled, place_emptied, losing, lost};
 
 use answers::Served;
+use refusals::Refusal;
 use ring::Pulse;
-use rows::ROWS;
+use rows::Board;
 
 // The relays of a place's module as a mask, the lowest bit relay 1.
 fn module_mask(place: usize) -> u16
@@ -20,7 +21,8 @@ fn module_mask(place: usize) -> u16
 }
 
 // A module comes to a place: its relays are open. Where one stands nothing is done.
-fn fill_place(board: &mut [[u64; 8]; ROWS], place: usize)
+#[tactic(auto, unfolding(crate::specs::Filling::filled_at))]
+fn fill_place(board: &mut Board, place: usize)
     ensures { board.new ≡ filled_at place board.old }
 {
     if !modules::is_filled(board, place) {
@@ -30,7 +32,8 @@ fn fill_place(board: &mut [[u64; 8]; ROWS], place: usize)
 }
 
 // Where no module is left the External Monitor message is due to nobody.
-fn clear_if_last(board: &mut [[u64; 8]; ROWS])
+#[tactic(auto, unfolding(crate::specs::Filling::last_gone))]
+fn clear_if_last(board: &mut Board)
     ensures { board.new ≡ last_gone board.old }
 {
     if !modules::has_module(board) {
@@ -39,85 +42,86 @@ fn clear_if_last(board: &mut [[u64; 8]; ROWS])
 }
 
 // A module leaves a place: its relays open, and the marks follow. Where none stands nothing is done.
-fn empty_place(board: &mut [[u64; 8]; ROWS], place: usize)
+#[tactic(auto, unfolding(crate::specs::Filling::emptied_at))]
+fn empty_place(board: &mut Board, place: usize)
     ensures { board.new ≡ emptied_at place board.old }
 {
     if modules::is_filled(board, place) {
-        let r = blocks::block(board, module_mask(place), 0);
+        let moved = blocks::block(board, module_mask(place), 0);
         modules::set_filled(board, place, false);
-        marks::mark(board, r.changed);
+        marks::mark(board, moved);
         clear_if_last(board);
     }
 }
 
-// What a call for a place is answered with, the row of pulses having so many records: 4, 11, or 1 where nothing refuses it.
-fn judge_place(records: usize, place: usize) -> u8
-    ensures { result ≡ place_answer records place }
+// A call for a place, the row of pulses having so many records: first the row is judged, then the place.
+fn judge_place(records: usize, place: usize) -> Result<(), Refusal>
+    ensures { result ≡ place_judged records place }
 {
     if records < 31 {
-        return numbers::SHORT_BUFFER;
+        return Err(Refusal::ShortBuffer);
     }
-    if modules::is_place(place) {
-        return numbers::SERVED;
+    if !modules::is_place(place) {
+        return Err(Refusal::OutOfRange);
     }
-    numbers::OUT_OF_RANGE
+    Ok(())
+}
+
+// The two calls for a place, each by the definition of its event: with the step as a closure neither is plainer.
+#[tactic(auto, unfolding(crate::specs::Filling::place_filled))]
+fn try_fill(board: &mut Board, records: usize, place: usize) -> Result<(), Refusal>
+    ensures { place_filled records place board.old ≡ concluded result board.new }
+{
+    judge_place(records, place)?;
+    fill_place(board, place);
+    Ok(())
+}
+
+#[tactic(auto, unfolding(crate::specs::Filling::place_emptied))]
+fn try_empty(board: &mut Board, records: usize, place: usize) -> Result<(), Refusal>
+    ensures { place_emptied records place board.old ≡ concluded result board.new }
+{
+    judge_place(records, place)?;
+    empty_place(board, place);
+    Ok(())
 }
 
 // A place is filled, with a row of pulses of so many records.
-pub fn fill(board: &mut [[u64; 8]; ROWS], records: usize, place: u8) -> Served
+pub fn fill(board: &mut Board, records: usize, place: u8) -> Served
     ensures { Gives (place_filled records place board.old) board.new result }
 {
-    let answer = judge_place(records, place as usize);
-    if answer == numbers::SERVED {
-        fill_place(board, place as usize);
-    }
-    answers::no_reply(answer)
+    answers::concluded(try_fill(board, records, usize::from(place)))
 }
 
 // A place is emptied, likewise. The records that `losing` counts lose the module's relays as `lose` says.
-pub fn empty(board: &mut [[u64; 8]; ROWS], records: usize, place: u8) -> Served
+pub fn empty(board: &mut Board, records: usize, place: u8) -> Served
     ensures { Gives (place_emptied records place board.old) board.new result }
 {
-    let answer = judge_place(records, place as usize);
-    if answer == numbers::SERVED {
-        empty_place(board, place as usize);
-    }
-    answers::no_reply(answer)
+    answers::concluded(try_empty(board, records, usize::from(place)))
 }
 
 // How many pulses lose relays when a place is emptied: all that stand, where a module does; else none.
-pub fn losing_of(board: &[[u64; 8]; ROWS], records: usize, place: u8) -> u64
+#[tactic(auto, unfolding(crate::specs::Filling::losing))]
+pub fn losing_of(board: &Board, records: usize, place: u8) -> u64
     ensures { result ≡ losing records place board.now }
 {
-    if records < 31 {
+    if records < 31 || !modules::is_filled(board, usize::from(place)) {
         return 0;
     }
-    if !modules::is_filled(board, place as usize) {
-        return 0;
-    }
-    let q = rows::queue_of(board);
-    if 31 < q.standing {
-        return 31;
-    }
-    q.standing
-}
-
-fn unmasked(mask: u16, place: u8) -> u16
-    ensures { result ≡ without place mask }
-{
-    if place == 1 {
-        return mask % 0x0100 + mask / 0x1000 * 0x1000;
-    }
-    mask % 0x1000
+    board.queue().standing.min(31)
 }
 
 // A pulse without the relays of a place's module: they leave its mask.
-pub fn lose(p: Pulse, place: u8) -> Pulse
-    ensures { result ≡ lost place p }
+#[tactic(auto, unfolding(crate::specs::Filling::without))]
+pub fn lose(pulse: Pulse, place: u8) -> Pulse
+    ensures { result ≡ lost place pulse }
 {
     Pulse {
-        mask: unmasked(p.mask, place),
-        states: p.states,
-        duration: p.duration,
+        mask: if place == 1 {
+            pulse.mask % 0x0100 + pulse.mask / 0x1000 * 0x1000
+        } else {
+            pulse.mask % 0x1000
+        },
+        ..pulse
     }
 }

@@ -4,21 +4,12 @@
 #![tactic(auto)]
 
 ghost use Rattle.std.specs.Prelude.{◌≡◌};
-ghost use Rattle.steps.specs.Steps.{start, half_after};
+ghost use Rattle.steps.specs.Steps.{half_after};
 ghost use Rattle.halves.specs.Halves.{half_in, half_words, half_at, put_half, dropped};
 
 use steps::{Half, Outcome};
 
-fn nothing_read() -> Half
-    ensures { result ≡ start }
-{
-    Half {
-        got: 0,
-        len: 0,
-        sum: 0,
-    }
-}
-
+// Functions and no `From`: neither type is this crate's.
 fn half_in(row: [u64; 3]) -> Half
     ensures { result ≡ half_in row }
 {
@@ -29,10 +20,11 @@ fn half_in(row: [u64; 3]) -> Half
     }
 }
 
-fn half_words(h: Half) -> [u64; 3]
-    ensures { result ≡ half_words h }
+fn half_words(half: Half) -> [u64; 3]
+    ensures { result ≡ half_words half }
 {
-    [h.got as u64, h.len as u64, h.sum as u64]
+    let Half { got, len, sum } = half;
+    [u64::from(got), u64::from(len), u64::from(sum)]
 }
 
 // Connection c's half-read message; of what is no connection, nothing.
@@ -41,45 +33,32 @@ pub fn half_at(halves: &[[u64; 3]; 4], c: usize) -> Half
     ensures { result ≡ half_at c halves.now }
 {
     if c < 4 {
-        let row = halves[c];
-        return half_in(row);
+        return half_in(halves[c]);
     }
-    nothing_read()
+    Half::NOTHING
 }
 
 #[tactic(auto, unfolding(crate::specs::Halves::put_half))]
-fn put_half(halves: &mut [[u64; 3]; 4], c: usize, h: Half)
-    ensures { halves.new ≡ put_half c h halves.old }
+fn put_half(halves: &mut [[u64; 3]; 4], c: usize, half: Half)
+    ensures { halves.new ≡ put_half c half halves.old }
 {
     if c < 4 {
-        halves[c] = half_words(h);
-    }
-}
-
-// What is half read after a piece.
-fn half_after(o: Outcome) -> Half
-    ensures { result ≡ half_after o }
-{
-    match o {
-        Outcome::Waiting(h) => h,
-        Outcome::KeepAlive => nothing_read(),
-        Outcome::Stray => nothing_read(),
-        Outcome::Message(len, sum) => nothing_read(),
+        halves[c] = half_words(half);
     }
 }
 
 // What is half read after a piece of connection c is kept.
-pub fn keep_half(halves: &mut [[u64; 3]; 4], c: usize, o: Outcome)
-    ensures { halves.new ≡ put_half c (half_after o) halves.old }
+pub fn keep_half(halves: &mut [[u64; 3]; 4], c: usize, outcome: Outcome)
+    ensures { halves.new ≡ put_half c (half_after outcome) halves.old }
 {
-    put_half(halves, c, half_after(o));
+    put_half(halves, c, outcome.half());
 }
 
-// Where an opening or a closing of c succeeded, nothing of its half-read message is left.
+// Where an opening or a closing of c succeeded, by the number that goes to C, nothing of its half-read message is left.
 pub fn drop_half(halves: &mut [[u64; 3]; 4], c: u8, answer: u8)
     ensures { halves.new ≡ dropped c answer halves.old }
 {
     if answer == numbers::SERVED {
-        put_half(halves, c as usize, nothing_read());
+        put_half(halves, usize::from(c), Half::NOTHING);
     }
 }

@@ -1,12 +1,9 @@
 -- Hexadecimal lines and the digits of an answer: 01, Console, 1 to 4; 02, M-102, 10.
-use Rattle.std.specs.Prelude.{Bool, true, cond, ◌&&◌, ◌||◌, List, [], ◌∷◌, ◌++◌, map, ℕ, ◌+◌, ◌-◌, ◌*◌, ◌/◌, ◌%◌, eqb, leb, ltb, length}
-use Rattle.std.proofs.Math.Option.{Option, none, some}
+use Rattle.std.specs.Prelude.{Option, None, Some, Bool, true, cond, ◌&&◌, ◌||◌, List, [], ◌∷◌, ◌++◌, map, ℕ, ◌+◌, ◌-◌, ◌*◌, ◌/◌, ◌%◌, eqb, leb, ltb, length}
 use Rattle.records.specs.declared.Relay.{Relay}
 use Rattle.rows.specs.Places.{Board, relay_at}
 use Rattle.modules.specs.Modules.{second_deck}
 use Rattle.writers.specs.Writers.{all_channels}
-use Rattle.hexadecimal.specs.declared.Parsed.{Parsed}
-use Rattle.hexadecimal.specs.declared.Parsed.TheVariants.{Bytes, Bad}
 
 -- 01, Console, 1: the characters 0 to 9, and A to F
 abbrev pub is_decimal : ℕ → Bool
@@ -39,16 +36,12 @@ pairs (a ∷ (b ∷ cs)) = (digit_of a * 16 + digit_of b) ∷ pairs cs
 
 -- 01, Console, 3: the piece that a line is, where it feeds
 unfoldable pub parsed : List ℕ → Option (List ℕ)
-parsed line = cond (feeds line) (some (pairs line)) none
+parsed line = cond (feeds line) (Some (pairs line)) None
 
--- the code's answer: how many bytes, or that the line feeds nothing; and the bytes themselves
-abbrev pub told : Option (List ℕ) → Parsed
-told none = Bad
-told (some bs) = Bytes (length bs)
-
+-- the bytes of such a piece; none where the line feeds nothing
 abbrev pub bytes_in : Option (List ℕ) → List ℕ
-bytes_in none = []
-bytes_in (some bs) = bs
+bytes_in None = []
+bytes_in (Some bs) = bs
 
 -- the character of a digit below 16
 abbrev pub glyph : ℕ → ℕ

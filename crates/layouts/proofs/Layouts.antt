@@ -14,103 +14,105 @@ use Rattle.laws.proofs.Tests.{by_cases}
 use Rattle.layouts.specs.Layouts.{Part, fields, optional, entries, onward, optionally, part_of, parts_of, finished, layout_in}
 use Rattle.layouts.specs.Outcomes.{Outcome, whole, early, surplus, in_list}
 use Rattle.layouts.proofs.Reaching.{onward-there, onward-cut, finished-over, finished-there}
-use Rattle.layouts.specs.declared.Reach.{Reach}
-use Rattle.layouts.specs.declared.Reach.TheVariants.{To, Broken}
+use Rattle.std.specs.Prelude.{Result, Ok, Err}
+use Rattle.refusals.specs.declared.Refusal.{Refusal}
+use Rattle.refusals.specs.declared.Refusal.TheVariants.{EndsEarly, LeftOver, ListCut}
 
 -- on its way a layout has come to a place in the content, or the content has ended
-data OnItsWay (n : ℕ) : Reach → Type 0 where
-  at_place : (at : ℕ) → at ≤ n → OnItsWay n (To at)
-  ended-early : OnItsWay n (Broken 20 n)
-  ended-in-list : OnItsWay n (Broken 22 n)
+data OnItsWay (n : ℕ) : Result ℕ Refusal → Type 0 where
+  at_place : (at : ℕ) → at ≤ n → OnItsWay n (Ok at)
+  ended-early : OnItsWay n (Err (EndsEarly n))
+  ended-in-list : OnItsWay n (Err (ListCut n))
 
 module _ (n : ℕ) where
-  further : (number size at : ℕ) → OnItsWay n (Broken number n) → OnItsWay n (onward number n size (To at))
+  further : (refusal : ℕ → Refusal) (size at : ℕ) → OnItsWay n (Err (refusal n)) → OnItsWay n (onward refusal n size (Ok at))
   unfolding onward
-  further number size at cut = go (leb (at + size) n) refl
+  further refusal size at cut = go (leb (at + size) n) refl
     where
-      go : (b : Bool) → leb (at + size) n ≡ b → OnItsWay n (cond b (To (at + size)) (Broken number n))
+      go : (b : Bool) → leb (at + size) n ≡ b → OnItsWay n (cond b (Ok (at + size)) (Err (refusal n)))
       go true e = at_place (at + size) (leb-true (at + size) n e)
       go false e = cut
 
-  part-goes : (part : Part) (reach : Reach) → OnItsWay n reach → OnItsWay n (part_of n part reach)
+  part-goes : (part : Part) (reach : Result ℕ Refusal) → OnItsWay n reach → OnItsWay n (part_of n part reach)
   unfolding onward optionally
-  part-goes (fields size) (To at) w = further 20 size at ended-early
-  part-goes (fields size) (Broken number place) w = w
-  part-goes (optional size) (To at) w = go (ltb at n)
+  part-goes (fields size) (Ok at) w = further EndsEarly size at ended-early
+  part-goes (fields size) (Err refusal) w = w
+  part-goes (optional size) (Ok at) w = go (ltb at n)
     where
-      go : (b : Bool) → OnItsWay n (cond b (onward 20 n size (To at)) (To at))
-      go true = further 20 size at ended-early
+      go : (b : Bool) → OnItsWay n (cond b (onward EndsEarly n size (Ok at)) (Ok at))
+      go true = further EndsEarly size at ended-early
       go false = w
-  part-goes (optional size) (Broken number place) w = w
-  part-goes (entries size) (To at) w = further 22 size at ended-in-list
-  part-goes (entries size) (Broken number place) w = w
+  part-goes (optional size) (Err refusal) w = w
+  part-goes (entries size) (Ok at) w = further ListCut size at ended-in-list
+  part-goes (entries size) (Err refusal) w = w
 
-  parts-go : (parts : List Part) (reach : Reach) → OnItsWay n reach → OnItsWay n (parts_of n parts reach)
+  parts-go : (parts : List Part) (reach : Result ℕ Refusal) → OnItsWay n reach → OnItsWay n (parts_of n parts reach)
   parts-go [] reach w = w
   parts-go (part ∷ parts) reach w = parts-go parts (part_of n part reach) (part-goes part reach w)
 
-  at-place-end : (at : ℕ) → at ≤ n → Outcome n (finished n (To at))
+  at-place-end : (at : ℕ) → at ≤ n → Outcome n (finished n (Ok at))
   unfolding finished
   at-place-end at h = go (ltb at n) refl
     where
-      go : (b : Bool) → ltb at n ≡ b → Outcome n (cond b (Broken 21 at) (To at))
+      go : (b : Bool) → ltb at n ≡ b → Outcome n (cond b (Err (LeftOver at)) (Ok at))
       go true e = surplus (ltb-true at n e)
       go false e =
           let l : n ≤ at = ltb-false at n e in
           let all : n ≡ at = omega arith in
-          subst (λ (k : ℕ). Outcome n (To k)) all whole
+          subst (λ (k : ℕ). Outcome n (Ok k)) all whole
 
-  at-its-end : {reach : Reach} → OnItsWay n reach → Outcome n (finished n reach)
+  at-its-end : {reach : Result ℕ Refusal} → OnItsWay n reach → Outcome n (finished n reach)
   unfolding finished
   at-its-end (at_place at h) = at-place-end at h
   at-its-end ended-early = early
   at-its-end ended-in-list = in_list
 
   pub layout-outcome : (layout : List Part) → Outcome n (layout_in n layout)
-  layout-outcome layout = at-its-end (parts-go layout (To 0) (at_place 0 (omega arith)))
+  layout-outcome layout = at-its-end (parts-go layout (Ok 0) (at_place 0 (omega arith)))
 
 -- ---- fields alone, of the content's own length
 
-pub fields-whole : (n : ℕ) → layout_in n (fields n ∷ []) ≡ To n
+pub fields-whole : (n : ℕ) → layout_in n (fields n ∷ []) ≡ Ok n
 fields-whole n =
     let end : 0 + n ≡ n = omega arith in
-    ap (finished n) (onward-there 20 n n 0 (omega arith)) ∙ ap (λ (at : ℕ). finished n (To at)) end ∙ finished-there n
+    ap (finished n) (onward-there EndsEarly n n 0 (omega arith)) ∙ ap (λ (at : ℕ). finished n (Ok at)) end ∙ finished-there n
 
 -- ---- a count and its list, by the content's length: one of the four comes to each
 
 module _ (n front size : ℕ) where
   -- the fields and the list, of which the fields come to a place
-  behind-fields : {reach : Reach} → onward 20 n front (To 0) ≡ reach → layout_in n (fields front ∷ entries size ∷ []) ≡ finished n (onward 22 n size reach)
-  behind-fields e = ap (λ (r : Reach). finished n (onward 22 n size r)) e
+  behind-fields : {reach : Result ℕ Refusal} → onward EndsEarly n front (Ok 0) ≡ reach
+      → layout_in n (fields front ∷ entries size ∷ []) ≡ finished n (onward ListCut n size reach)
+  behind-fields e = ap (λ (r : Result ℕ Refusal). finished n (onward ListCut n size r)) e
 
-  list-there : front + size ≤ n → layout_in n (fields front ∷ entries size ∷ []) ≡ finished n (To (0 + front + size))
-  list-there h = behind-fields (onward-there 20 n front 0 (omega arith)) ∙ ap (finished n) (onward-there 22 n size (0 + front) (omega arith))
+  list-there : front + size ≤ n → layout_in n (fields front ∷ entries size ∷ []) ≡ finished n (Ok (0 + front + size))
+  list-there h = behind-fields (onward-there EndsEarly n front 0 (omega arith)) ∙ ap (finished n) (onward-there ListCut n size (0 + front) (omega arith))
 
-  pub list-early : n < front → layout_in n (fields front ∷ entries size ∷ []) ≡ Broken 20 n
+  pub list-early : n < front → layout_in n (fields front ∷ entries size ∷ []) ≡ Err (EndsEarly n)
   unfolding onward finished
-  list-early h = behind-fields (onward-cut 20 n front 0 (omega arith))
+  list-early h = behind-fields (onward-cut EndsEarly n front 0 (omega arith))
 
-  pub list-cut : front ≤ n → n < front + size → layout_in n (fields front ∷ entries size ∷ []) ≡ Broken 22 n
+  pub list-cut : front ≤ n → n < front + size → layout_in n (fields front ∷ entries size ∷ []) ≡ Err (ListCut n)
   unfolding finished
-  list-cut h k = behind-fields (onward-there 20 n front 0 (omega arith)) ∙ ap (finished n) (onward-cut 22 n size (0 + front) (omega arith))
+  list-cut h k = behind-fields (onward-there EndsEarly n front 0 (omega arith)) ∙ ap (finished n) (onward-cut ListCut n size (0 + front) (omega arith))
 
-  pub list_over : front + size < n → layout_in n (fields front ∷ entries size ∷ []) ≡ Broken 21 (front + size)
+  pub list_over : front + size < n → layout_in n (fields front ∷ entries size ∷ []) ≡ Err (LeftOver (front + size))
   list_over h =
       let end : 0 + front + size ≡ front + size = omega arith in
-      list-there (omega arith) ∙ ap (λ (at : ℕ). finished n (To at)) end ∙ finished-over n (front + size) h
+      list-there (omega arith) ∙ ap (λ (at : ℕ). finished n (Ok at)) end ∙ finished-over n (front + size) h
 
-  pub list-whole : front + size ≡ n → layout_in n (fields front ∷ entries size ∷ []) ≡ To n
+  pub list-whole : front + size ≡ n → layout_in n (fields front ∷ entries size ∷ []) ≡ Ok n
   list-whole h =
       let end : 0 + front + size ≡ n = omega arith in
-      list-there (omega arith) ∙ ap (λ (at : ℕ). finished n (To at)) end ∙ finished-there n
+      list-there (omega arith) ∙ ap (λ (at : ℕ). finished n (Ok at)) end ∙ finished-there n
 
   -- so where they are there whole, their bytes are the content's
-  pub fields-and-list : layout_in n (fields front ∷ entries size ∷ []) ≡ To n → front + size ≡ n
+  pub fields-and-list : layout_in n (fields front ∷ entries size ∷ []) ≡ Ok n → front + size ≡ n
   fields-and-list e =
       by_cases (ltb n front) (λ t. never-to (sym (list-early (ltb-true n front t)) ∙ e))
       (λ f. by_cases (ltb n (front + size)) (λ t. never-to (sym (list-cut (ltb-false n front f) (ltb-true n (front + size) t)) ∙ e))
       (λ g. by_cases (ltb (front + size) n) (λ t. never-to (sym (list_over (ltb-true (front + size) n t)) ∙ e))
       (λ h. omega (arith, ltb-false n (front + size) g, ltb-false (front + size) n h))))
     where
-      never-to : {number place at : ℕ} {A : Type 0} → Broken number place ≡ To at → A
-      never-to w = let z : ◌≡◌ {A = ℕ} 0 1 = cc in absurd (omega arith)
+      never-to : {refusal : Refusal} {at : ℕ} {A : Type 0} → Err refusal ≡ Ok at → A
+      never-to w = cc

@@ -1,3 +1,1 @@
-pub mod Losing
-pub mod Places
 pub mod Unique

@@ -13,21 +13,14 @@ use ring::Pulse;
 pub fn pulse_at(row: &[Pulse], i: usize) -> Pulse
     ensures { result ≡ pulse_at row.now i }
 {
-    if i < row.len() {
-        row[i]
-    } else {
-        Pulse {
-            mask: 0,
-            states: 0,
-            duration: 0,
-        }
-    }
+    row.get(i).copied().unwrap_or_default()
 }
 
 // A record is stored at a place of the row.
 pub fn put_pulse(row: &mut [Pulse], i: usize, p: Pulse)
     ensures { row.new ≡ set row.old i p }
 {
+    // by index: the contract of a slice's get_mut says nothing of its elements
     if i < row.len() {
         row[i] = p;
     }
@@ -37,19 +30,16 @@ pub fn put_pulse(row: &mut [Pulse], i: usize, p: Pulse)
 pub fn lose_at(row: &mut [Pulse], i: usize, place: u8)
     ensures { row.new ≡ set row.old i (lost place (pulse_at row.old i)) }
 {
-    let p = pulse_at(row, i);
-    let l = filling::lose(p, place);
-    put_pulse(row, i, l);
+    let p = filling::lose(pulse_at(row, i), place);
+    put_pulse(row, i, p);
 }
 
 // The first n pulses of a queue lose them.
+#[tactic(auto, unfolding(filling::specs::Filling::row_without))]
 pub fn lose_first(row: &mut [Pulse], q: Queue, n: u64, place: u8)
     ensures { row.new ≡ row_without place q n row.old }
 {
-    let mut k: u64 = 0;
-    while k < n {
-        let i = ring::place_in(q, k);
-        lose_at(row, i, place);
-        k += 1;
+    for k in 0..n {
+        lose_at(row, ring::place_in(q, k), place);
     }
 }

@@ -1,18 +1,18 @@
 -- The numbers of an order, to say in what range they lie. They decide nothing: only theorems are stated with them.
-use Rattle.std.specs.Prelude.{List, ℕ, ◌≤◌, length}
-use Rattle.numbers.specs.Numbers as numbers
+use Rattle.std.specs.Prelude.{List, ℕ, ◌≤◌, length, Err}
+use Rattle.refusals.specs.declared.Refusal.{Refusal as Why}
+use Rattle.refusals.specs.declared.Refusal.TheVariants.{NotOffered, LowRank, OutOfRange}
 use Rattle.layouts.specs.Outcomes.{Outcome}
-use Rattle.layouts.specs.declared.Reach.TheVariants.{Broken}
-use Rattle.judges.specs.declared.Order.{Order}
-use Rattle.judges.specs.declared.Order.TheVariants.{Close, Open, Toggle, ClearCount, ClearInputUsage, ClearRelayUsage, PulseRelay, PulseBlock}
+use Rattle.orders.specs.declared.Order.{Order}
+use Rattle.orders.specs.declared.Order.TheVariants.{Close, Open, Toggle, ClearCount, ClearInputUsage, ClearRelayUsage, PulseRelay, PulseBlock}
 
--- 01, Answer numbers, lines 8, 9 and 11, and 02, M-105, 1 and 2: the numbers that a content is refused with, each with its place: 20 to 22 that
--- with which its layout breaks, the others 0
-pub data Refusal (content : List ℕ) : ℕ → ℕ → Type 0 where
-  not-offered : Refusal content numbers.not_offered 0
-  low-rank : Refusal content numbers.low_rank 0
-  out_of_range : Refusal content numbers.out_of_range 0
-  broken : {number place : ℕ} → Outcome (length content) (Broken number place) → Refusal content number place
+-- 01, Answer numbers, lines 8, 9 and 11, and 02, M-105, 1 and 2: why a content is refused: 8, 9 and 11, which have no place, or 20 to 22, that
+-- with which its layout breaks, with its place
+pub data Refusal (content : List ℕ) : Why → Type 0 where
+  not-offered : Refusal content NotOffered
+  low-rank : Refusal content LowRank
+  out_of_range : Refusal content OutOfRange
+  broken : {refusal : Why} → Outcome (length content) (Err refusal) → Refusal content refusal
 
 -- 01, Answer numbers, line 11: a number in its range, from low to high
 abbrev pub Within : ℕ → ℕ → ℕ → Type 0

@@ -16,9 +16,9 @@ use Rattle.steps.specs.declared.Outcome.TheVariants.{Waiting, KeepAlive, Stray, 
 use Rattle.steps.specs.Steps.{number_of}
 use Rattle.framing.specs.declared.Fed.{Fed}
 use Rattle.framing.specs.Reading.{Run, run_of, got_of}
-use Rattle.frames.specs.declared.Judged.{Judged}
-use Rattle.frames.specs.declared.Judged.TheVariants.{TooLong, Whole}
-use Rattle.frames.specs.Judge.{judge_of, refusal_of}
+use Rattle.std.specs.Prelude.{Ok, Err}
+use Rattle.refusals.specs.declared.Refusal.TheVariants.{TooLong}
+use Rattle.frames.specs.Judge.{Judged, judge_of, refusal_of}
 use Rattle.rows.specs.Places.{Board}
 use Rattle.answers.specs.declared.Served.{Served}
 use Rattle.connections.specs.Lines.{is_open, is_strict}
@@ -48,11 +48,11 @@ pub judged-by : (len sum : ℕ) (room : List ℕ) {read strict : Bool} {j k : Ju
 judged-by len sum room e f g = ap (judge_of len sum room) (sym f) ∙ sym e ∙ g
 
 -- one that is judged whole lies in the room
-pub whole-fits : (len sum : ℕ) (room : List ℕ) (strict : Bool) → judge_of len sum room strict ≡ Whole → len ≤ length room
+pub whole-fits : (len sum : ℕ) (room : List ℕ) (strict : Bool) → judge_of len sum room strict ≡ Ok tt → len ≤ length room
 unfolding judge_of
 whole-fits len sum room strict e =
     by_cases (ltb (length room) len)
-    (λ q. let y : TooLong ≡ Whole = rw q at e in let z : ◌≡◌ {A = ℕ} 0 1 = cc in absurd (omega arith))
+    (λ q. let y : ◌≡◌ {A = Judged} (Err TooLong) (Ok tt) = rw q at e in let z : ◌≡◌ {A = ℕ} 0 1 = cc in absurd (omega arith))
     (λ q. ltb-false (length room) len q)
 
 module _ (len sum : ℕ) (room : List ℕ) (c : ℕ) (p : Board) where

@@ -1,5 +1,6 @@
 // A piece of bytes from a connection: it is fed to the connection's half-read message, and a message that ends is judged and served.
 // Every public function takes every input. A refused call takes nothing and changes nothing. Of the lent row of pulses only its length comes here.
+// Board, halves and rooms stay parameters of their own here and in the crate board: the host lends each by its own pointer (C).
 
 #![tactic(auto)]
 
@@ -14,21 +15,21 @@ ghost use Rattle.pieces.specs.Effects.{made_of, Answers};
 ghost use Rattle.pieces.specs.Pieces.{answered, fed, fed_call, bytes_call, halves_after, rooms_after, Ready};
 
 use answers::Served;
-use frames::Judged;
 use framing::Fed;
-use rows::ROWS;
+use refusals::Refusal;
+use rows::Board;
 use steps::{Half, Outcome};
 
 // What a call came to: the bytes taken of a piece, the reply's length, the place of the first byte of a content that is missing or left over,
-// where that is why it is refused (else 0), and the answer number. The number stands last: in front it would have a gap behind it, and a struct
-// with a gap inside is put together in memory and copied.
+// where that is why it is refused (else 0), and the answer number. The number has a whole word, of which the host reads the lowest byte, the first
+// on its machines: a struct with a gap is copied by words that overlap, and the next load waits for them.
 #[repr(C)]
-#[derive(Clone, Copy)]
+#[derive(Clone, Copy, Debug, PartialEq, Eq)]
 pub struct Done {
     pub taken: usize,
     pub len: usize,
     pub place: usize,
-    pub answer: u8,
+    pub answer: u64,
 }
 
 // What the plain machine gave back, and the bytes taken.
@@ -39,13 +40,13 @@ pub fn finish(s: Served, taken: usize) -> Done
         taken,
         len: s.len,
         place: s.place,
-        answer: s.answer,
+        answer: u64::from(s.answer),
     }
 }
 
 // A message that has ended is judged, and served where it is whole.
 fn judge_message(
-    board: &mut [[u64; 8]; ROWS],
+    board: &mut Board,
     c: u8,
     len: u16,
     sum: u16,
@@ -55,12 +56,10 @@ fn judge_message(
     requires { Ready c board.old room.now reply.old }
     ensures { Does (answered c (got_of room.now (Outcome.Message len sum)) board.old) board.new reply.old reply.new result }
 {
-    let n = len as usize;
-    let j = frames::judge(len, sum, room, connections::is_strict(board, c));
-    match j {
-        Judged::Whole => serving::serve(board, c, &room[..n], reply),
-        Judged::TooLong => answers::no_reply(numbers::TOO_LONG),
-        Judged::BadSum => answers::no_reply(numbers::BAD_CHECKSUM),
+    match frames::judge(len, sum, room, connections::is_strict(board, c)) {
+        Ok(()) => serving::serve(board, c, &room[..len as usize], reply),
+        // by its number: no refusal of a frame has a place, which its type does not say
+        Err(refusal) => answers::no_reply(refusal.number()),
     }
 }
 
@@ -76,7 +75,7 @@ fn feed_part(rooms: &mut [u8], at: usize, half: Half, piece: &[u8]) -> Fed
 
 // A message that has ended is judged and served, from that room.
 fn judge_part(
-    board: &mut [[u64; 8]; ROWS],
+    board: &mut Board,
     c: u8,
     len: u16,
     sum: u16,
@@ -91,21 +90,9 @@ fn judge_part(
     judge_message(board, c, len, sum, &rooms[from..to], reply)
 }
 
-// Bytes that ended no frame.
-fn quiet(answer: u8, taken: usize) -> Done
-    ensures { result ≡ record { answer = answer; taken = taken; place = 0; len = 0 } }
-{
-    Done {
-        taken,
-        len: 0,
-        place: 0,
-        answer,
-    }
-}
-
 // The bytes of an open connection, with a reply buffer that is long enough.
 fn take_bytes(
-    board: &mut [[u64; 8]; ROWS],
+    board: &mut Board,
     halves: &mut [[u64; 3]; 4],
     rooms: &mut [u8],
     c: u8,
@@ -118,21 +105,22 @@ fn take_bytes(
     ensures rooms_after { rooms.new ≡ put_room c (fed c piece.now halves.old rooms.old).room rooms.old }
 {
     let at = c as usize;
-    let f = feed_part(rooms, at, halves::half_at(halves, at), piece);
-    let o = f.outcome;
-    halves::keep_half(halves, at, o);
-    match o {
-        Outcome::Waiting(h) => quiet(numbers::WAITING, f.taken),
-        Outcome::KeepAlive => quiet(numbers::KEEP_ALIVE, f.taken),
-        Outcome::Stray => quiet(numbers::STRAY, f.taken),
-        Outcome::Message(len, sum) => finish(judge_part(board, c, len, sum, rooms, reply), f.taken),
+    let fed = feed_part(rooms, at, halves::half_at(halves, at), piece);
+    halves::keep_half(halves, at, fed.outcome);
+    match fed.outcome {
+        Outcome::Waiting(_) => finish(answers::no_reply(numbers::WAITING), fed.taken),
+        Outcome::KeepAlive => finish(answers::no_reply(numbers::KEEP_ALIVE), fed.taken),
+        Outcome::Stray => finish(answers::no_reply(numbers::STRAY), fed.taken),
+        Outcome::Message(len, sum) => {
+            finish(judge_part(board, c, len, sum, rooms, reply), fed.taken)
+        }
     }
 }
 
 // Bytes of connection c, up to the end of a message, which is served, or of the piece.
 #[tactic(auto, unfolding(crate::specs::Pieces::halves_after, crate::specs::Pieces::rooms_after))]
 pub fn give_bytes(
-    board: &mut [[u64; 8]; ROWS],
+    board: &mut Board,
     halves: &mut [[u64; 3]; 4],
     rooms: &mut [u8; 4096],
     records: usize,
@@ -145,13 +133,13 @@ pub fn give_bytes(
     ensures rooms_after { rooms.new ≡ rooms_after c piece.now (length reply.old) records board.old halves.old rooms.old }
 {
     if !connections::is_open(board, c) {
-        return finish(answers::no_reply(numbers::NO_CONNECTION), 0);
+        return finish(answers::refused(Refusal::NoConnection), 0);
     }
     if reply.len() < 4096 {
-        return finish(answers::no_reply(numbers::SHORT_BUFFER), 0);
+        return finish(answers::refused(Refusal::ShortBuffer), 0);
     }
     if records < 31 {
-        return finish(answers::no_reply(numbers::SHORT_BUFFER), 0);
+        return finish(answers::refused(Refusal::ShortBuffer), 0);
     }
     take_bytes(board, halves, rooms, c, piece, reply)
 }

@@ -6,7 +6,7 @@ ghost use Rattle.std.specs.Prelude.{◌≡◌};
 ghost use Rattle.powerup.specs.PowerUp.{fresh_input, fresh_relay, powered_up};
 
 use records::{Input, Relay};
-use rows::ROWS;
+use rows::{Board, ROWS};
 
 // What the host sets of an input at power-up; alarm is the alarm switch.
 #[repr(C)]
@@ -26,43 +26,42 @@ pub struct Settings {
     pub relays: [u64; 8],
 }
 
-fn fresh_input(s: InputSettings) -> Input
-    ensures { result ≡ fresh_input s }
-{
-    Input {
-        level: false,
-        alarm: s.alarm,
-        count: 0,
-        setpoint_one: s.setpoint_one as u64,
-        setpoint_two: s.setpoint_two as u64,
-        usage: 0,
-        usage_setpoint: s.usage_setpoint,
+impl InputSettings {
+    // The input at power-up.
+    fn fresh_input(self) -> Input
+        ensures { result ≡ fresh_input self }
+    {
+        Input {
+            level: false,
+            alarm: self.alarm,
+            count: 0,
+            setpoint_one: u64::from(self.setpoint_one),
+            setpoint_two: u64::from(self.setpoint_two),
+            usage: 0,
+            usage_setpoint: self.usage_setpoint,
+        }
     }
 }
 
-fn fresh_relay(setpoint: u64) -> Relay
-    ensures { result ≡ fresh_relay setpoint }
+fn fresh_relay(usage_setpoint: u64) -> Relay
+    ensures { result ≡ fresh_relay usage_setpoint }
 {
     Relay {
         closed: false,
         usage: 0,
-        usage_setpoint: setpoint,
+        usage_setpoint,
     }
 }
 
 // The box at power-up, with what the host sets.
-pub fn power_up(board: &mut [[u64; 8]; ROWS], s: Settings)
+pub fn power_up(board: &mut Board, s: Settings)
     ensures { board.new ≡ powered_up s }
 {
-    *board = [[0; 8]; ROWS];
-    let inputs = s.inputs;
-    for k in 0..8 {
-        let i = inputs[k];
-        rows::put_input(board, k + 1, fresh_input(i));
+    board.rows = [[0; 8]; ROWS];
+    for (k, settings) in s.inputs.iter().enumerate() {
+        board.put_input(k + 1, settings.fresh_input());
     }
-    let relays = s.relays;
-    for k in 0..8 {
-        let r = relays[k];
-        rows::put_relay(board, k + 1, fresh_relay(r));
+    for (k, &setpoint) in s.relays.iter().enumerate() {
+        board.put_relay(k + 1, fresh_relay(setpoint));
     }
 }

@@ -9,11 +9,13 @@ use native.Mathlib.Nat.{pow-suc, le_antisymm, div-eq_of_lt, add-div_right, add-m
 use native.Mathlib.Omega.{arith}
 use native.Mathlib.Numerals.{add-one}
 use lib.Dec.{lit<, eqb, ltb}
-use lib.Pow.{pow_pos, pow-add}
+use lib.Pow.{pow_pos, pow-add, pow_mono}
 use borrow.Author.Tests.{ltb-true, ltb-false}
+use mir.Val.{bool_byte}
 use Rattle.laws.proofs.Tests.{by_cases}
 use Rattle.rows.specs.Places.{Board, relay_at}
 use Rattle.laws.specs.Bits.{bit_of}
+use Rattle.ring.proofs.Weight.{weight}
 use Rattle.pulses.specs.Pulses.{states_below, states_of}
 
 one_more : (n s : ℕ) (closed : Bool) → s < 2 ^ n → s + cond closed (2 ^ n) 0 < 2 ^ suc n
@@ -63,18 +65,26 @@ pub record Joining (b : Board) (states k : ℕ) : Type 0 where
   pub in-range : k ≤ 16
   pub so-far : states ≡ states_below k b
 
+-- a relay's state, shifted to its bit
+pub weighed : (k : ℕ) (closed : Bool) → k < 16 → bool_byte closed * 2 ^ k % 2 ^ 64 ≡ cond closed (2 ^ k) 0
+weighed k true h = weight k 64 (omega arith)
+weighed k false h = search arith
+
+weight-fits : (k s : ℕ) (closed : Bool) → k < 16 → s < 2 ^ k → s + cond closed (2 ^ k) 0 < 2 ^ 64
+weight-fits k s true h l = omega (arith, pow_mono {i = k} {j = 16} (omega arith))
+weight-fits k s false h l = omega (arith, pow_mono {i = k} {j = 16} (omega arith))
+
 module _ {b : Board} where
   pub join-start : Joining b 0 0
   unfolding states_below
   join-start = record { in-range = zero-le; so-far = refl }
 
-  pub join-fits : {states k : ℕ} → Joining b states k → states < 2 ^ k
-  join-fits {k = k} m = rw m.so-far (states-small k b)
+  pub join-fits : {states k : ℕ} (closed : Bool) → Joining b states k → k < 16 → states + cond closed (2 ^ k) 0 < 2 ^ 64
+  join-fits {states} {k} closed m h = weight-fits k states closed h (rw m.so-far (states-small k b))
 
-  pub join-turn : {states after k : ℕ} {closed : Bool} → Joining b states k → k < 16 → closed ≡ (relay_at (k + 1) b).closed
-      → after ≡ states + cond closed (2 ^ k) 0 → Joining b after (k + 1)
+  pub join-turn : {states k : ℕ} → Joining b states k → k < 16 → Joining b (states + cond (relay_at (k + 1) b).closed (2 ^ k) 0) (k + 1)
   unfolding states_below
-  join-turn {k = k} m h e f = record { in-range = omega arith; so-far = f ∙ rw (e, m.so-far, add-one) }
+  join-turn {states} {k} m h = record { in-range = omega arith; so-far = rw (add-one, ← m.so-far) }
 
   pub join-done : {states k : ℕ} → Joining b states k → 16 ≤ k → states ≡ states_of b
   join-done m h = m.so-far ∙ ap (λ (n : ℕ). states_below n b) (le_antisymm m.in-range h)

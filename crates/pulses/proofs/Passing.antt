@@ -1,41 +1,55 @@
 -- A call of time, as a loop: each turn goes to the end of the running pulse.
 --     Passing         its invariant: what the ms that are left lead to is what all ms do
---     passing-start, passing-turn, passing-done
+--     passing-start, passing-turn
 --     has-row, told-again, queue-ended, one-gone, stays-waited   what is there of a queue, and what an end and a wait leave of it
 use mathlib.Core.Path.{◌≡◌, refl, sym, ap, ◌∙◌}
-use mathlib.Core.Bool.{true, false, true≢false, cond}
+use mathlib.Core.Bool.{true, false, true≢false}
 use mathlib.Core.List.{List, [], ◌∷◌}
 use Prim.Native.Nat.{ℕ, zero, suc, ◌-◌, ◌≤◌, ◌<◌, min}
 use native.Mathlib.Omega.{arith}
-use lib.Dec.{eqb, ltb}
+use lib.Dec.{ltb}
 use lib.ListN.{length}
 use lib.Seq.{get_or-set_same}
 use borrow.Author.Tests.{leb-true, ltb-true, ltb-false}
+use Rattle.std.specs.Prelude.{Option, Some, None, Result, Ok, Err}
+use Rattle.refusals.specs.declared.Refusal.{Refusal}
+use Rattle.refusals.specs.declared.Refusal.TheVariants.{ShortBuffer}
 use Rattle.laws.proofs.Tests.{by_cases, and_left, and_right}
 use Rattle.records.specs.declared.Queue.{Queue}
 use Rattle.records.specs.Records.{queue_in, queue_words}
 use Rattle.rows.specs.Places.{Board, row_at, queue_row, queue_of, put_queue}
 use Rattle.tables.specs.Time.{passed}
 use Rattle.ring.specs.declared.Pulse.{Pulse}
-use Rattle.pulses.specs.declared.Time.{Time}
+use Rattle.pulses.specs.declared.Ending.{Ending}
 use Rattle.pulses.specs.Pulses.{short_row, lasts, ends_within, states_of, beginning, begun, ended, followed, turned, waited, elapsed}
 use Rattle.ring.specs.Ring.{pulse_at, place, runs, standing, popped}
-use Rattle.pulses.specs.Passing.{over, onward, start_of, turn_of, Goes}
+use Rattle.pulses.specs.Passing.{onward, start_of, turn_of, Goes}
 use Rattle.pulses.proofs.Apart.{queue-passed, queue-switched}
 use Rattle.pulses.proofs.Ticks.{left-told, quiet, jump}
 
 -- what is still to be done from board z on
-abbrev leads : List Pulse → Time → Board → Board
-leads row t z = cond t.ends (elapsed row t.rest z) z
+abbrev leads : List Pulse → Option Ending → Board → Board
+leads row (Some e) z = elapsed row e.rest z
+leads row None z = z
 
-pub record Passing (row : List Pulse) (d : ℕ) (b : Board) (t : Time) (z : Board) : Type 0 where
-  pub told : t.answer ≡ cond (short_row (length row)) 4 1
-  pub reaches : leads row t z ≡ cond (short_row (length row)) b (elapsed row d b)
-  -- a pulse that is to end is the first, at these places
-  pub long : t.ends ≡ true → short_row (length row) ≡ false
-  pub within : t.ends ≡ true → ends_within t.rest (queue_of z) ≡ true
-  pub at_first : t.ends ≡ true → t.first ≡ place (queue_of z) 0
-  pub at_next : t.ends ≡ true → t.next ≡ place (queue_of z) 1
+-- the pulse that is to end is the first, it ends within the ms that are left, and these are its place and the next's
+pub record Stands (e : Ending) (z : Board) : Type 0 where
+  pub within : ends_within e.rest (queue_of z) ≡ true
+  pub at_first : e.running ≡ place (queue_of z) 0
+  pub at_next : e.next ≡ place (queue_of z) 1
+
+abbrev pub IfEnding : Option Ending → Board → Type 0
+IfEnding (Some e) z = Stands e z
+IfEnding None z = Unit
+
+pub record Passing (row : List Pulse) (d : ℕ) (b : Board) (ending : Option Ending) (z : Board) : Type 0 where
+  pub reaches : leads row ending z ≡ elapsed row d b
+  pub stands : IfEnding ending z
+
+-- how a call of time begins: refused, nothing done, or with its first pulse
+abbrev pub Started : List Pulse → ℕ → Board → Result (Option Ending) Refusal → Board → Type 0
+Started row d b (Err refusal) z = (short_row (length row) ≡ true) × (z ≡ b) × (refusal ≡ ShortBuffer)
+Started row d b (Ok ending) z = (short_row (length row) ≡ false) × Passing row d b ending z
 
 -- how many turns there may still be
 abbrev pub waiting : Board → ℕ
@@ -43,58 +57,29 @@ waiting z = standing (queue_of z)
 
 module _ {row : List Pulse} {d : ℕ} {b : Board} where
   -- ms that are left, from a board on from which they lead to the whole
-  on-from : (k : ℕ) (z₀ z : Board) (t : Time) → elapsed row k z₀ ≡ elapsed row d b → short_row (length row) ≡ false → Goes (onward k z₀) z t
-      → Passing row d b t z
+  on-from : (k : ℕ) (z₀ z : Board) (ending : Option Ending) → elapsed row k z₀ ≡ elapsed row d b → Goes (onward k z₀) z ending
+      → Passing row d b ending z
   unfolding onward elapsed
-  on-from k z₀ z t same long g =
+  on-from k z₀ z ending same g =
       by_cases (ends_within k (queue_of z₀))
       (λ e. let z-is = rw e at g.board in
-      let t-is = rw e at g.gives in
-      rw (t-is, z-is) (record { told = rw long; reaches = rw long same; long = λ _. long; within = λ _. e; at_first = λ _. refl; at_next = λ _. refl }))
+      let ending-is = rw e at g.gives in
+      rw (ending-is, z-is) (record { reaches = same; stands = record { within = e; at_first = refl; at_next = refl } }))
       (λ e. let z-is = rw e at g.board in
-      let t-is = rw e at g.gives in
-      rw (t-is, z-is)
-      (record {
-        told = rw long;
-        reaches = rw long (sym (quiet row k z₀ e) ∙ same);
-        long = λ _. long;
-        within = λ f. absurd (true≢false (sym f));
-        at_first = λ f. absurd (true≢false (sym f));
-        at_next = λ f. absurd (true≢false (sym f));
-      }))
+      let ending-is = rw e at g.gives in
+      rw (ending-is, z-is) (record { reaches = sym (quiet row k z₀ e) ∙ same; stands = tt }))
 
-  pub passing-start : {z : Board} {t : Time} → Goes (start_of (length row) d b) z t → Passing row d b t z
+module _ (row : List Pulse) (d : ℕ) (b : Board) where
+  pub passing-start : (z : Board) (r : Result (Option Ending) Refusal) → Goes (start_of (length row) d b) z r → Started row d b r z
   unfolding start_of
-  passing-start {z} {t} g =
+  passing-start z r g =
       by_cases (short_row (length row))
       (λ s. let z-is = rw s at g.board in
-      let t-is = rw s at g.gives in
-      rw (t-is, z-is)
-      (record {
-        told = rw s;
-        reaches = rw s;
-        long = λ f. absurd (true≢false (sym f));
-        within = λ f. absurd (true≢false (sym f));
-        at_first = λ f. absurd (true≢false (sym f));
-        at_next = λ f. absurd (true≢false (sym f));
-      }))
-      (λ s. on-from d b z t refl s (rw s at g))
-
-  -- a call in which no pulse ends
-  pub passing-at-once : {z : Board} (r : ℕ) → z ≡ cond (eqb r 1) (waited d b) b
-      → r ≡ cond (short_row (length row)) 4 (cond (ends_within d (queue_of b)) 0 1) → eqb r 0 ≡ false → Passing row d b (over r) z
-  unfolding start_of onward
-  passing-at-once r z-is r-is more =
-      passing-start
-      (by_cases (short_row (length row))
-      (λ s. let four = rw s at r-is in rw s (record { board = rw four at z-is; gives = ap over four }))
-      (λ s. by_cases (ends_within d (queue_of b))
-      (λ e. absurd (true≢false (rw (rw (s, e) at r-is) at more)))
-      (λ e. let one = rw (s, e) at r-is in rw (s, e) (record { board = rw one at z-is; gives = ap over one }))))
-
-  pub passing-done : {z : Board} {t : Time} → Passing row d b t z → t.ends ≡ false
-      → (z ≡ cond (short_row (length row)) b (elapsed row d b)) × (t.answer ≡ cond (short_row (length row)) 4 1)
-  passing-done m e = (rw e at m.reaches, m.told)
+      let r-is = rw s at g.gives in
+      rw (r-is, z-is) (s, refl, refl))
+      (λ s. let z-is = rw s at g.board in
+      let r-is = rw s at g.gives in
+      rw (r-is, z-is) (s, on-from d b (onward d b).board (onward d b).rest refl (record { board = refl; gives = refl })))
 
 -- ---- a turn
 
@@ -142,14 +127,14 @@ unfolding onward
 stays-onward k b = by_cases (ends_within k (queue_of b)) (λ e. rw e) (λ e. rw e (stays-waited k b))
 
 -- the ms up to the end are there
-just-those : (t : Time) (q : Queue) → ends_within t.rest q ≡ true → min (lasts q) t.rest ≡ lasts q
-just-those t q e = let l = leb-true (lasts q) t.rest (and_right (runs q) _ e) in omega (arith, l)
+just-those : (rest : ℕ) (q : Queue) → ends_within rest q ≡ true → min (lasts q) rest ≡ lasts q
+just-those rest q e = let l = leb-true (lasts q) rest (and_right (runs q) _ e) in omega (arith, l)
 
 -- a turn, where the running pulse ends within the ms that are left
-turn_is : (p next : Pulse) (t : Time) (z : Board) → ends_within t.rest (queue_of z) ≡ true
-    → turn_of p next t z ≡ onward (t.rest - lasts (queue_of z)) (turned p next (passed (lasts (queue_of z)) z))
+turn_is : (p next : Pulse) (rest : ℕ) (z : Board) → ends_within rest (queue_of z) ≡ true
+    → turn_of p next rest z ≡ onward (rest - lasts (queue_of z)) (turned p next (passed (lasts (queue_of z)) z))
 unfolding turn_of
-turn_is p next t z e = rw (just-those t (queue_of z) e)
+turn_is p next rest z e = rw (just-those rest (queue_of z) e)
 
 fewer : (k : ℕ) (p next : Pulse) (z : Board) → runs (queue_of z) ≡ true → waiting (onward k (turned p next (passed (lasts (queue_of z)) z))).board < waiting z
 fewer k p next z r =
@@ -159,15 +144,15 @@ fewer k p next z r =
     rw n (rw same (omega (arith, ltb-true 0 (queue_of z).standing r)))
 
 module _ {row : List Pulse} {d : ℕ} {b : Board} where
-  pub passing-turn : {z z' : Board} {t t' : Time} → Passing row d b t z → t.ends ≡ true
-      → Goes (turn_of (pulse_at row t.first) (pulse_at row t.next) t z) z' t' → Passing row d b t' z' × (waiting z' < waiting z)
+  pub passing-turn : {z z' : Board} {e : Ending} {ending : Option Ending} → Passing row d b (Some e) z
+      → Goes (turn_of (pulse_at row e.running) (pulse_at row e.next) e.rest z) z' ending → Passing row d b ending z' × (waiting z' < waiting z)
   unfolding elapsed
-  passing-turn {z} {z'} {t} {t'} m e g =
+  passing-turn {z} {z'} {e} {ending} m g =
       let q : Queue = queue_of z in
-      let w : ends_within t.rest q ≡ true = m.within e in
-      let h = rw (m.at_first e, m.at_next e) at (rw (turn_is (pulse_at row t.first) (pulse_at row t.next) t z w) at g) in
+      let w : ends_within e.rest q ≡ true = m.stands.within in
+      let h = rw (m.stands.at_first, m.stands.at_next) at (rw (turn_is (pulse_at row e.running) (pulse_at row e.next) e.rest z w) at g) in
       let after : Board = turned (pulse_at row (place q 0)) (pulse_at row (place q 1)) (passed (lasts q) z) in
-      let same : elapsed row (t.rest - lasts q) after ≡ elapsed row d b = sym (jump row t.rest z w) ∙ rw (e, m.long e) at m.reaches in (
-        on-from (t.rest - lasts q) after z' t' same (m.long e) h,
-        rw h.board (fewer (t.rest - lasts q) (pulse_at row (place q 0)) (pulse_at row (place q 1)) z (and_left (runs q) _ w)),
+      let same : elapsed row (e.rest - lasts q) after ≡ elapsed row d b = sym (jump row e.rest z w) ∙ m.reaches in (
+        on-from (e.rest - lasts q) after z' ending same h,
+        rw h.board (fewer (e.rest - lasts q) (pulse_at row (place q 0)) (pulse_at row (place q 1)) z (and_left (runs q) _ w)),
       )

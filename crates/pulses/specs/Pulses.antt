@@ -4,7 +4,7 @@ use Rattle.laws.specs.Times.{times}
 use Rattle.records.specs.declared.Queue.{Queue}
 use Rattle.rows.specs.Places.{Board, relay_at, queue_of, put_queue, left_set}
 use Rattle.tables.specs.Time.{passed}
-use Rattle.changes.specs.Answers.{Change}
+use Rattle.changes.specs.Answers.{Change, moved_of}
 use Rattle.blocks.specs.Blocks.{block_of}
 use Rattle.marks.specs.Marks.{marked}
 use Rattle.ring.specs.declared.Pulse.{Pulse}
@@ -24,7 +24,7 @@ states_of b = states_below 16 b
 
 -- 02, M-100, 3: the masked relays take these states, at a beginning or an end: a change by itself, whose marks follow at once
 unfoldable pub switched : ℕ → ℕ → Board → Board
-switched mask states b = let m : Change = block_of mask states b in marked m.changed m.board
+switched mask states b = let m : Change = block_of mask states b in marked (moved_of m.outcome) m.board
 
 -- 02, M-100, 3: at a beginning the relays' states are remembered, the ms left are the duration, and the masked take the pulse's states
 abbrev pub beginning : Pulse → ℕ → Queue → Queue

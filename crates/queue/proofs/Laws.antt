@@ -5,8 +5,8 @@
 --     accepted-waits    02, M-100, 2: where one runs, the request changes nothing but the queue's own row, and of it neither the ms left nor what is remembered
 --     begins-at-end     02, M-100, 2: the next begins at the end of the one before, in the same ms, behind the growing of clock and usage
 --     ends_last         02, M-100, 2: where none is next, none begins
---     refused           02, M-100, 7: where 31 stand, `pulses::push` answers 14 and changes nothing
---     taken_in          02, M-100, 7: where fewer stand, it answers 1, and the pulse is accepted
+--     refused           02, M-100, 7: where 31 stand, `pulses::push` refuses, whose number is 14, and changes nothing
+--     taken_in          02, M-100, 7: where fewer stand, it refuses nothing, and the pulse is accepted
 --     at-most-31        02, M-100, 2: where 31 stand at most, so it is behind any ms and any request
 --     place-again       02, M-100, 2: behind an end of a full queue there is room, and the request goes to the place that was freed
 --     place-low         02, M-100, 5: every place is one of the row's first 31 (in Ring)
@@ -28,6 +28,9 @@ use lib.ListN.{length, take, drop, length-set}
 use lib.Seq.{get_or-set_other, get_or-take, drop-set-lt}
 use lib.Pow.{pow_pos, pow-lt}
 use borrow.Author.Tests.{ltb-true, ltb-false, leb-false, le-leb, lt-leb, lt-ltb, le-ltb, eq-eqb, ne_eqb, eqb-true, eqb-false}
+use Rattle.std.specs.Prelude.{Some, Ok, Err}
+use Rattle.refusals.specs.declared.Refusal.TheVariants.{ShortBuffer, QueueFull}
+use Rattle.refusals.specs.Refusals.{number_of}
 use Rattle.laws.specs.Times.{times}
 use Rattle.laws.proofs.Flow.{times-add}
 use Rattle.laws.proofs.Tests.{by_cases, and_left}
@@ -40,7 +43,7 @@ use Rattle.tables.specs.Time.{passed}
 use Rattle.ring.specs.declared.Pulse.{Pulse}
 use Rattle.pulses.specs.Pulses.{states_below, states_of, begun, ended, turned, ends_within, tick, elapsed, accepted}
 use Rattle.ring.specs.Ring.{pulse_of, relay_pulse, pulse_at, standing, is_full, runs, place, joined, newest, seat_of, row_after}
-use Rattle.pulses.specs.Passing.{going, over, start_of}
+use Rattle.pulses.specs.Passing.{going, start_of}
 use Rattle.pulses.proofs.Apart.{queue-passed}
 use Rattle.pulses.proofs.Bits.{bit_added, bit-top}
 use Rattle.pulses.proofs.Passing.{has-row, queue-ended, one-gone, stays-waited}
@@ -131,13 +134,14 @@ module _ (row : List Pulse) (b : Board) (e : ends_within 1 (queue_of b) ≡ true
 
 -- ---- refused, or taken in
 
-pub refused : (κs : _) (a : _) (r : _) (s : _) → push.Post κs a r s → 31 ≤ (queue_of a.0.now).standing → (r ≡ 14) × (s.0.now ≡ a.0.now)
+pub refused : (κs : _) (a : _) (r : _) (s : _) → push.Post κs a r s → 31 ≤ (queue_of a.0.now).standing
+    → (r ≡ Err QueueFull) × (number_of QueueFull ≡ 14) × (s.0.now ≡ a.0.now)
 refused κs a r s post h =
     let t : is_full (queue_of a.0.now) ≡ true = le-leb 31 (queue_of a.0.now).standing h in
-    (rw t at post.1, rw t at post.0)
+    (rw t at post.1, refl, rw t at post.0)
 
 pub taken_in : (κs : _) (a : _) (r : _) (s : _) → push.Post κs a r s → (queue_of a.0.now).standing < 31
-    → (r ≡ 1) × (s.0.now ≡ accepted a.1.0 a.0.now)
+    → (r ≡ Ok tt) × (s.0.now ≡ accepted a.1.0 a.0.now)
 taken_in κs a r s post h =
     let t : is_full (queue_of a.0.now) ≡ false = lt-leb 31 (queue_of a.0.now).standing h in
     (rw t at post.1, rw t at post.0)
@@ -196,16 +200,16 @@ round q q' e =
     let z : q.first + 0 ≡ q.first = omega arith in
     f ∙ g ∙ ap (λ (n : ℕ). n % 31) i ∙ add-mod_right q.first 31 ∙ sym (flat q 0 ∙ ap (λ (n : ℕ). n % 31) z)
 
-pub place-again : (p next new : Pulse) (records : ℕ) (b : Board) → (queue_of b).standing ≡ 31
+pub place-again : (p next new : Pulse) (b : Board) → (queue_of b).standing ≡ 31
     → (is_full (queue_of (turned p next b)) ≡ false)
-    × (seat_of records (queue_of (turned p next b)) (queue_of (accepted new (turned p next b))) ≡ place (queue_of b) 0)
-place-again p next new records b h =
+    × (seat_of (queue_of (turned p next b)) (queue_of (accepted new (turned p next b))) ≡ Some (place (queue_of b) 0))
+place-again p next new b h =
     let r : runs (queue_of b) ≡ true = rw h in
     let z : Board = turned p next b in
     let n : (queue_of z).standing ≡ 30 = one-gone p next b r ∙ rw h in
     let l : queue_row < length z = rw (turned-length p next b r) (has-row b r) in (
       rw n,
-      seat-is new z l records ∙ ap (place (queue_of z)) n ∙ round (queue_of b) (queue_of z) (first_on p next b r),
+      seat-is new z l ∙ ap Some (ap (place (queue_of z)) n ∙ round (queue_of b) (queue_of z) (first_on p next b r)),
     )
 
 module _ (b b' : Board) (row : List Pulse) where
@@ -250,9 +254,9 @@ reads-low row (suc d) b = ap (tick (take 31 row)) (reads-low row d b) ∙ same (
     same : (b : Board) → tick (take 31 row) b ≡ tick row b
     same b = rw (low row (queue_of b) 0, low row (queue_of b) 1)
 
-pub short_row : (records d : ℕ) (b : Board) → records < 31 → start_of records d b ≡ going b (over 4)
+pub short_row : (records d : ℕ) (b : Board) → records < 31 → (start_of records d b ≡ going b (Err ShortBuffer)) × (number_of ShortBuffer ≡ 4)
 unfolding start_of
-short_row records d b h = rw (lt-ltb records 31 h)
+short_row records d b h = (rw (lt-ltb records 31 h), refl)
 
 -- ---- action 6
 

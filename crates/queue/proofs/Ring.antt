@@ -3,7 +3,7 @@
 --     apart            02, M-100, 5: and those of different pulses differ
 --     view-tick        02, M-100, 4 and 5: one ms, on the ring and on the list;   view-elapsed   and d of them
 --     view-pushed      02, M-100, 5 and 7: a request, likewise
---     seat-stores      02, M-100, 5: the row after a request is that with its record at the place that `pulses::seat` gives
+--     seat-stores      02, M-100, 5: the row after a request is that with its record at the place that `ring::seat` gives
 --     waiting-length   02, M-100, 2: the list is as long as pulses stand
 use mathlib.Core.Path.{◌≡◌, refl, sym, ap, ◌∙◌}
 use mathlib.Core.Bool.{true, false}
@@ -13,8 +13,9 @@ use native.Mathlib.Nat.{add-mod, mod-add-mod, mod-add-div', mod-eq_of_lt, mod-lt
 use native.Mathlib.Omega.{arith}
 use lib.Dec.{leb, ltb, lit<}
 use lib.ListN.{length, set}
-use lib.Seq.{lt-length-set, set_out, get_or-set_same, get_or-set_other}
+use lib.Seq.{lt-length-set, get_or-set_same, get_or-set_other}
 use borrow.Author.Tests.{ltb-true, ltb-false, leb-true, leb-false, le-leb, lt-leb, lt-ltb, le-ltb}
+use Rattle.std.specs.Prelude.{Option, Some, None}
 use Rattle.laws.specs.Times.{times}
 use Rattle.laws.proofs.Tests.{by_cases}
 use Rattle.records.specs.declared.Queue.{Queue}
@@ -170,9 +171,9 @@ module _ (p : Pulse) (b : Board) (h : queue_row < length b) where
       (λ r. rw (queue-waits r, m, s, d))
       (λ r. rw (queue-begins r, m, s, d))
 
-  pub seat-is : (records : ℕ) → seat_of records (queue_of b) (queue_of (accepted p b)) ≡ place (queue_of b) (queue_of b).standing
+  pub seat-is : seat_of (queue_of b) (queue_of (accepted p b)) ≡ Some (place (queue_of b) (queue_of b).standing)
   unfolding seat_of
-  seat-is records =
+  seat-is =
       let e : (queue_of b).standing + 1 - 1 ≡ (queue_of b).standing = omega arith in
       rw (one_more.0, one_more.1, lt-ltb (queue_of b).standing ((queue_of b).standing + 1) (omega arith), e)
 
@@ -183,13 +184,14 @@ module _ (p : Pulse) (b : Board) (h : queue_row < length b) where
       let e : (queue_of b).standing + 1 - 1 ≡ (queue_of b).standing = omega arith in
       rw (newest-is f, one_more.0, one_more.1, lt-ltb (queue_of b).standing ((queue_of b).standing + 1) (omega arith), e)
 
--- the row that `pulses::seat` says where to store in
-pub seat-stores : (b b' : Board) (row : List Pulse) → set row (seat_of (length row) (queue_of b) (queue_of b')) (newest b') ≡ row_after b b' row
+-- the row that `ring::seat` says where to store in
+abbrev pub stored_at : Option ℕ → Pulse → List Pulse → List Pulse
+stored_at (Some i) p row = set row i p
+stored_at None p row = row
+
+pub seat-stores : (b b' : Board) (row : List Pulse) → stored_at (seat_of (queue_of b) (queue_of b')) (newest b') row ≡ row_after b b' row
 unfolding seat_of row_after
-seat-stores b b' row =
-    by_cases (ltb (queue_of b).standing (queue_of b').standing)
-    (λ t. rw t)
-    (λ f. rw (f, set_out row (length row) (newest b') (omega arith)))
+seat-stores b b' row = by_cases (ltb (queue_of b).standing (queue_of b').standing) (λ t. rw t) (λ f. rw f)
 
 pub none-stored : (b : Board) (row : List Pulse) → row_after b b row ≡ row
 unfolding row_after

@@ -1,14 +1,14 @@
 -- For one input, two answers that a contract allows are equal.
 use mathlib.Core.Path.{◌≡◌, sym, ◌∙◌}
-use Rattle.records.proofs.input_in.Reads as input-in
-use Rattle.records.proofs.input_words.Reads as input-words
-use Rattle.records.proofs.relay_in.Reads as relay-in
-use Rattle.records.proofs.relay_words.Reads as relay-words
-use Rattle.records.proofs.line_in.Reads as line-in
-use Rattle.records.proofs.line_words.Reads as line-words
+use Rattle.records.proofs.InputFromRow.from.Reads as input-in
+use Rattle.records.proofs.RowFromInput.from.Reads as input-words
+use Rattle.records.proofs.RelayFromRow.from.Reads as relay-in
+use Rattle.records.proofs.Relay.stored_in.Reads as relay-words
+use Rattle.records.proofs.LineFromRow.from.Reads as line-in
+use Rattle.records.proofs.RowFromLine.from.Reads as line-words
 use Rattle.records.proofs.due_words.Reads as due-words
-use Rattle.records.proofs.queue_in.Reads as queue-in
-use Rattle.records.proofs.queue_words.Reads as queue-words
+use Rattle.records.proofs.QueueFromRow.from.Reads as queue-in
+use Rattle.records.proofs.RowFromQueue.from.Reads as queue-words
 
 pub unique-input-in : (κs : _) (a : _) (r r' : _) (s s' : _) → input-in.Post κs a r s → input-in.Post κs a r' s' → r ≡ r'
 unique-input-in κs a r r' s s' p q = p ∙ sym q

@@ -3,7 +3,10 @@
 #![tactic(auto)]
 
 ghost use Rattle.std.specs.Prelude.{◌≡◌, cond};
-ghost use Rattle.records.specs.Records.{flagged, input_in, input_words, relay_in, relay_words, line_in, line_words, due_words, queue_in, queue_words};
+ghost use Rattle.records.specs.Records.{relay_words, due_words};
+
+// A row, as the host lends it.
+pub type Row = [u64; 8];
 
 // The words that the rows of inputs and relays have in common: on or closed, and the usage that grows then.
 pub const STATE: usize = 0;
@@ -19,7 +22,7 @@ pub const EXTERNAL: usize = 5;
 pub const LEFT: usize = 2;
 
 // An input; alarm is its alarm switch.
-#[derive(Clone, Copy)]
+#[derive(Clone, Copy, Debug, PartialEq, Eq)]
 pub struct Input {
     pub level: bool,
     pub alarm: bool,
@@ -30,16 +33,85 @@ pub struct Input {
     pub usage_setpoint: u64,
 }
 
-#[derive(Clone, Copy)]
+impl From<Row> for Input {
+    ghost use Rattle.records.specs.Records.{input_in};
+
+    ghost from_gives = { λ row i. i ≡ input_in row };
+
+    fn from(row: Row) -> Input {
+        Input {
+            level: row[STATE] != 0,
+            alarm: row[1] != 0,
+            count: row[2],
+            setpoint_one: row[3],
+            setpoint_two: row[4],
+            usage: row[USAGE],
+            usage_setpoint: row[6],
+        }
+    }
+}
+
+impl From<Input> for Row {
+    ghost use Rattle.records.specs.Records.{input_words};
+
+    ghost from_gives = { λ i row. row ≡ input_words i };
+
+    fn from(i: Input) -> Row {
+        [
+            u64::from(i.level),
+            u64::from(i.alarm),
+            i.count,
+            i.setpoint_one,
+            i.setpoint_two,
+            i.usage,
+            i.usage_setpoint,
+            0,
+        ]
+    }
+}
+
+#[derive(Clone, Copy, Debug, PartialEq, Eq)]
 pub struct Relay {
     pub closed: bool,
     pub usage: u64,
     pub usage_setpoint: u64,
 }
 
+impl From<Row> for Relay {
+    ghost use Rattle.records.specs.Records.{relay_in};
+
+    ghost from_gives = { λ row r. r ≡ relay_in row };
+
+    fn from(row: Row) -> Relay {
+        Relay {
+            closed: row[STATE] != 0,
+            usage: row[USAGE],
+            usage_setpoint: row[6],
+        }
+    }
+}
+
+impl Relay {
+    // The relay in a relay's row, word by word as the definition has it. The words that it does not have stay, so that nothing is stored for them.
+    pub fn stored_in(self, row: Row) -> Row
+        ensures { result ≡ relay_words row self }
+    {
+        [
+            u64::from(self.closed),
+            row[1],
+            row[2],
+            row[3],
+            row[4],
+            self.usage,
+            self.usage_setpoint,
+            row[7],
+        ]
+    }
+}
+
 // A connection, without its half-read message; strict is what its opening said, external whether the External Monitor message is due. A shut
 // one is all zero.
-#[derive(Clone, Copy)]
+#[derive(Clone, Copy, Debug, PartialEq, Eq)]
 pub struct Line {
     pub is_open: bool,
     pub rank: u64,
@@ -49,106 +121,40 @@ pub struct Line {
     pub external: bool,
 }
 
-// The queue of pulses, without its records, which stand in a row of their own: the place of the first, which runs, and how many stand; of the
-// running one the ms left and the relays' states at its beginning; and the request that was accepted last, as it goes into that row.
-#[derive(Clone, Copy)]
-pub struct Queue {
-    pub first: u64,
-    pub standing: u64,
-    pub left: u64,
-    pub remembered: u64,
-    pub mask: u64,
-    pub states: u64,
-    pub duration: u64,
-}
+impl From<Row> for Line {
+    ghost use Rattle.records.specs.Records.{line_in};
 
-fn flag(b: bool) -> u64
-    ensures { result ≡ flagged b }
-{
-    if b { 1 } else { 0 }
-}
+    ghost from_gives = { λ row l. l ≡ line_in row };
 
-pub fn input_in(row: [u64; 8]) -> Input
-    ensures { result ≡ input_in row }
-{
-    Input {
-        level: row[STATE] != 0,
-        alarm: row[1] != 0,
-        count: row[2],
-        setpoint_one: row[3],
-        setpoint_two: row[4],
-        usage: row[USAGE],
-        usage_setpoint: row[6],
+    fn from(row: Row) -> Line {
+        Line {
+            is_open: row[0] != 0,
+            rank: row[1],
+            monitor: row[2] != 0,
+            due: row[DUE] != 0,
+            strict: row[4],
+            external: row[EXTERNAL] != 0,
+        }
     }
 }
 
-pub fn input_words(i: Input) -> [u64; 8]
-    ensures { result ≡ input_words i }
-{
-    [
-        flag(i.level),
-        flag(i.alarm),
-        i.count,
-        i.setpoint_one,
-        i.setpoint_two,
-        i.usage,
-        i.usage_setpoint,
-        0,
-    ]
-}
+impl From<Line> for Row {
+    ghost use Rattle.records.specs.Records.{line_words};
 
-pub fn relay_in(row: [u64; 8]) -> Relay
-    ensures { result ≡ relay_in row }
-{
-    Relay {
-        closed: row[STATE] != 0,
-        usage: row[USAGE],
-        usage_setpoint: row[6],
+    ghost from_gives = { λ l row. row ≡ line_words l };
+
+    fn from(l: Line) -> Row {
+        [
+            u64::from(l.is_open),
+            l.rank,
+            u64::from(l.monitor),
+            u64::from(l.due),
+            l.strict,
+            u64::from(l.external),
+            0,
+            0,
+        ]
     }
-}
-
-// A relay in a relay's row. The words that it does not have stay, so that nothing is stored for them.
-pub fn relay_words(row: [u64; 8], r: Relay) -> [u64; 8]
-    ensures { result ≡ relay_words row r }
-{
-    [
-        flag(r.closed),
-        row[1],
-        row[2],
-        row[3],
-        row[4],
-        r.usage,
-        r.usage_setpoint,
-        row[7],
-    ]
-}
-
-pub fn line_in(row: [u64; 8]) -> Line
-    ensures { result ≡ line_in row }
-{
-    Line {
-        is_open: row[0] != 0,
-        rank: row[1],
-        monitor: row[2] != 0,
-        due: row[DUE] != 0,
-        strict: row[4],
-        external: row[EXTERNAL] != 0,
-    }
-}
-
-pub fn line_words(l: Line) -> [u64; 8]
-    ensures { result ≡ line_words l }
-{
-    [
-        flag(l.is_open),
-        l.rank,
-        flag(l.monitor),
-        flag(l.due),
-        l.strict,
-        flag(l.external),
-        0,
-        0,
-    ]
 }
 
 // A mark, set or left as it is.
@@ -158,8 +164,8 @@ fn mark_word(set: bool, was: u64) -> u64
     if set { 1 } else { was }
 }
 
-// A connection's row with one mark set, or the other, or both; every other word stays.
-pub fn due_words(row: [u64; 8], due: bool, external: bool) -> [u64; 8]
+// A connection's row with one mark set, or the other, or both; every other word stays. A row of words and no Line: nothing but a mark is stored.
+pub fn due_words(row: Row, due: bool, external: bool) -> Row
     ensures { result ≡ due_words due external row }
 {
     [
@@ -174,31 +180,52 @@ pub fn due_words(row: [u64; 8], due: bool, external: bool) -> [u64; 8]
     ]
 }
 
-pub fn queue_in(row: [u64; 8]) -> Queue
-    ensures { result ≡ queue_in row }
-{
-    Queue {
-        first: row[0],
-        standing: row[1],
-        left: row[LEFT],
-        remembered: row[3],
-        mask: row[4],
-        states: row[5],
-        duration: row[6],
+// The queue of pulses, without its records, which stand in a row of their own: the place of the first, which runs, and how many stand; of the
+// running one the ms left and the relays' states at its beginning; and the request that was accepted last, as it goes into that row.
+#[derive(Clone, Copy, Debug, PartialEq, Eq)]
+pub struct Queue {
+    pub first: u64,
+    pub standing: u64,
+    pub left: u64,
+    pub remembered: u64,
+    pub mask: u64,
+    pub states: u64,
+    pub duration: u64,
+}
+
+impl From<Row> for Queue {
+    ghost use Rattle.records.specs.Records.{queue_in};
+
+    ghost from_gives = { λ row q. q ≡ queue_in row };
+
+    fn from(row: Row) -> Queue {
+        Queue {
+            first: row[0],
+            standing: row[1],
+            left: row[LEFT],
+            remembered: row[3],
+            mask: row[4],
+            states: row[5],
+            duration: row[6],
+        }
     }
 }
 
-pub fn queue_words(q: Queue) -> [u64; 8]
-    ensures { result ≡ queue_words q }
-{
-    [
-        q.first,
-        q.standing,
-        q.left,
-        q.remembered,
-        q.mask,
-        q.states,
-        q.duration,
-        0,
-    ]
+impl From<Queue> for Row {
+    ghost use Rattle.records.specs.Records.{queue_words};
+
+    ghost from_gives = { λ q row. row ≡ queue_words q };
+
+    fn from(q: Queue) -> Row {
+        [
+            q.first,
+            q.standing,
+            q.left,
+            q.remembered,
+            q.mask,
+            q.states,
+            q.duration,
+            0,
+        ]
+    }
 }

@@ -11,8 +11,10 @@ use lib.Seq.{get_or-set_other}
 use Rattle.laws.proofs.Tests.{by_cases}
 use Rattle.words.proofs.Laws.{Bytes, number_lt}
 use Rattle.steps.specs.Cut.{Got, keep_alive, stray, too_long, frame}
-use Rattle.judges.specs.declared.Order.{Order}
-use Rattle.judges.specs.declared.Order.TheVariants.{Refused, Clock, Monitor, Usage, MonitorOff, MonitorOn, SetClock, Close, Open, Toggle, ClearCount, ClearInputUsage, ClearRelayUsage, Block, PulseRelay, PulseBlock, Read, Write, Enumerate}
+use Rattle.std.specs.Prelude.{Result, Ok, Err}
+use Rattle.refusals.specs.declared.Refusal.{Refusal}
+use Rattle.orders.specs.declared.Order.{Order}
+use Rattle.orders.specs.declared.Order.TheVariants.{Clock, Monitor, Usage, MonitorOff, MonitorOn, SetClock, Close, Open, Toggle, ClearCount, ClearInputUsage, ClearRelayUsage, Block, PulseRelay, PulseBlock, Read, Write, Enumerate}
 use Rattle.records.specs.declared.Input.{Input}
 use Rattle.records.specs.declared.Relay.{Relay}
 use Rattle.records.specs.declared.Line.{Line}
@@ -23,11 +25,12 @@ use Rattle.rows.proofs.Channel.{in-range, channel}
 use Rattle.modules.specs.declared.Moved.{Moved}
 use Rattle.modules.specs.Modules.{present, has_module}
 use Rattle.devices.specs.declared.Device.{Device}
-use Rattle.devices.specs.declared.Device.TheVariants.{Din, Rout, Unknown}
+use Rattle.devices.specs.declared.Device.TheVariants.{Input as input, Relay as relay}
+use Rattle.std.specs.Prelude.{Option, Some, None}
 use Rattle.laws.specs.Bits.{has_flag, bit_of}
 use Rattle.devices.specs.Devices.{device_of}
 use Rattle.tables.specs.Time.{grown, usage_passed, passed}
-use Rattle.changes.specs.Answers.{on_input, on_relay}
+use Rattle.changes.specs.Answers.{moved_of, on_input, on_relay}
 use Rattle.changes.specs.Levels.{has_level, level_of}
 use Rattle.edits.specs.Edits.{raised, told, count_written, input_written, relay_fails}
 use Rattle.changes.specs.Commands.{on_present}
@@ -44,7 +47,7 @@ use Rattle.pulses.proofs.Keeping.{Keeps, elapsed-keeps, accepted-keeps}
 use Rattle.marks.specs.Marks.{watches, marked_row, any_moved, marked, external_cleared}
 use Rattle.plain.specs.Events.{leveled, time_passed, monitors_sent}
 use Rattle.serving.specs.Obeying.{monitor_set, clock_told, pulsed, pulsed_relay, obeyed}
-use Rattle.serving.specs.Serving.{served_content, served_message}
+use Rattle.serving.specs.Serving.{served_order, served_content, served_message}
 use Rattle.powerup.specs.declared.Settings.{Settings}
 use Rattle.powerup.specs.PowerUp.{powered_up}
 use Rattle.register.specs.Box.{Event, level, pass, connect, close, collect, fill, empty, Tables, happens}
@@ -180,18 +183,18 @@ module _ (b : Board) (f : Fit b) where
       (λ h. rw h (by_cases (has_level k (eqb v 1) b) (λ q. rw q f)
       (λ q. rw q (on-input (told (eqb v 1)) k (raised-small (input_at k b).level (eqb v 1) (input_at k b).count)))))
 
-  device-fits : (d : Device) (e : Entry) → e.count ≤ most → Fit (device_done d e b).board
+  device-fits : (d : Option Device) (e : Entry) → e.count ≤ most → Fit (device_done d e b).board
   unfolding device_done write_input write_relay input_written
-  device-fits (Din k) e h =
+  device-fits (Some (input k)) e h =
       by_cases (input_size_fits e.size e.flags)
       (λ p. rw p (by_cases (ltb 7 e.flags) (λ q. rw q f)
       (λ q. rw q (on-input (input_written e.flags e.count) k (written_small e.flags e.count (input_at k b).count h)))))
       (λ p. rw p f)
-  device-fits (Rout k) e h =
+  device-fits (Some (relay k)) e h =
       by_cases (relay_size_fits e.size e.flags)
       (λ p. rw p (by_cases (relay_fails e.flags e.state) (λ q. rw q f) (λ q. rw q (on-relay (is_channel k) _ k))))
       (λ p. rw p f)
-  device-fits Unknown e h = f
+  device-fits None e h = f
 
   marks-fit : (moved : Moved) → Fit (marked moved b)
   unfolding marked
@@ -255,7 +258,7 @@ relay-pulsed k ms b f = by_cases (present k b) (λ t. rw t (pulsed-fits (relay_p
 
 event-fits : (e : Event) (t : Tables) → Fit t.board → Fit (happens e t).board
 unfolding leveled time_passed monitors_sent
-event-fits (level k v) t f = marks-fit (level_of k v t.board).board (level-fits t.board f k v) (level_of k v t.board).changed
+event-fits (level k v) t f = marks-fit (level_of k v t.board).board (level-fits t.board f k v) (moved_of (level_of k v t.board).outcome)
 event-fits (pass d) t f =
     by_cases (short_row (length t.row)) (λ s. rw s f) (λ s. rw s (elapsed-keeps pulses-fit t.row d t.board f))
 event-fits (connect c rank strict) t f = connect-cases c t.board rank strict (λ d. Fit d.board) f f f (λ u. line-fits t.board f c _)
@@ -266,7 +269,6 @@ event-fits (empty place) t f = emptied-keeps places-fit (length t.row) place t.b
 
 obeyed-fits : (c : ℕ) (s : List ℕ) → Bytes s → (o : Order) (b : Board) → Fit b → Fit (obeyed c s o b).board
 unfolding obeyed monitor_set clock_told
-obeyed-fits c s h (Refused n place) b f = f
 obeyed-fits c s h Clock b f = f
 obeyed-fits c s h Monitor b f = f
 obeyed-fits c s h Usage b f = f
@@ -286,12 +288,16 @@ obeyed-fits c s h (Read n) b f = f
 obeyed-fits c s h (Write n) b f = marks-fit _ (written-fits s h 3 n (so_far b 0 false) f) _
 obeyed-fits c s h (Enumerate flags) b f = f
 
+order-fits : (c : ℕ) (s : List ℕ) → Bytes s → (o : Result Order Refusal) (b : Board) → Fit b → Fit (served_order c s o b).board
+order-fits c s h (Ok o) b f = obeyed-fits c s h o b f
+order-fits c s h (Err refusal) b f = f
+
 message-fits : (c : ℕ) (g : Got) (b : Board) → InBytes g → Fit b → Fit (served_message c g b).board
 unfolding served_message served_content
 message-fits c keep_alive b h f = f
 message-fits c stray b h f = f
 message-fits c too_long b h f = f
-message-fits c (frame sum s) b h f = frame-cases c sum s b (λ d. Fit d.board) (obeyed-fits c s h (order_of s (line_at c b).rank) b f) f
+message-fits c (frame sum s) b h f = frame-cases c sum s b (λ d. Fit d.board) (order-fits c s h (order_of s (line_at c b).rank) b f) f
 
 -- THE LAWS
 pub counts-at-power-up : (s : Settings) → CountsFit (powered_up s)

@@ -28,12 +28,13 @@ use Rattle.rows.specs.Places.{Board, row_at, line_at, clock_set, clock_row}
 use Rattle.ring.specs.declared.Pulse.{Pulse}
 use Rattle.pulses.specs.Pulses.{short_row, elapsed}
 use Rattle.ring.specs.Ring.{row_after}
-use Rattle.judges.specs.declared.Order.{Order}
-use Rattle.judges.specs.declared.Order.TheVariants.{Refused, SetClock}
+use Rattle.std.specs.Prelude.{Result, Ok, Err}
+use Rattle.refusals.specs.declared.Refusal.{Refusal}
+use Rattle.refusals.specs.declared.Refusal.TheVariants.{NotOffered, LowRank}
+use Rattle.orders.specs.declared.Order.{Order}
+use Rattle.orders.specs.declared.Order.TheVariants.{SetClock}
 use Rattle.layouts.specs.Layouts.{fields, layout_in}
-use Rattle.layouts.specs.declared.Reach.{Reach}
-use Rattle.layouts.specs.declared.Reach.TheVariants.{To, Broken}
-use Rattle.judges.specs.Judges.{of_reach, if_sized, judge_set_clock}
+use Rattle.orders.specs.Judges.{of_reach, if_sized, judge_set_clock}
 use Rattle.orders.specs.Orders.{set_clock_of, order_of}
 use Rattle.marks.specs.Marks.{with_marks}
 use Rattle.plain.specs.Events.{leveled, time_passed, monitors_sent, collected}
@@ -42,7 +43,7 @@ use Rattle.filling.specs.Filling.{filled_at, emptied_at, place_answer, on_place,
 use Rattle.connections.specs.Lines.{connected, closed}
 use Rattle.answers.specs.Calls.{Did, did, refused, refused_at}
 use Rattle.serving.specs.Obeying.{clock_told, obeyed}
-use Rattle.serving.specs.Serving.{served_content, served_message}
+use Rattle.serving.specs.Serving.{served_order, served_content, served_message}
 use Rattle.halves.specs.Halves.{Halves}
 use Rattle.pieces.specs.Pieces.{answered, fed, bytes_call}
 use Rattle.board.specs.Calls.{pass_call}
@@ -56,19 +57,20 @@ use Rattle.register.proofs.Numbers.{Judged, serves, refuses, unplaced, level-jud
 use Rattle.register.proofs.BoxCalls.{row_same, bytes-touches, bytes-half-apart, bytes-room-apart, left-apart, left-refused, connect-apart, close-apart}
 
 -- CLOCK ALONE. What a content of type 7 orders: the clock, or nothing
-data ForClock : Order → Type 0 where
-  sets : (v : ℕ) → ForClock (SetClock v)
-  refuses-it : (n place : ℕ) → ForClock (Refused n place)
+data ForClock : Result Order Refusal → Type 0 where
+  sets : (v : ℕ) → ForClock (Ok (SetClock v))
+  refuses-it : (refusal : Refusal) → ForClock (Err refusal)
 
 seven-orders : (s : List ℕ) (rank : ℕ) → TypeSeven s → ForClock (order_of s rank)
 unfolding order_of set_clock_of judge_set_clock if_sized of_reach
 seven-orders s rank h = rw h (go (eqb (length s) 0) (ltb rank 2) (layout_in (length s) (fields 9 ∷ [])))
   where
-    go : (none low : Bool) (reach : Reach) → ForClock (cond none (Refused 8 0) (cond low (Refused 9 0) (of_reach reach (SetClock (number_at s 1 8)))))
-    go true low reach = refuses-it 8 0
-    go false true reach = refuses-it 9 0
-    go false false (To at) = sets (number_at s 1 8)
-    go false false (Broken n place) = refuses-it n place
+    go : (none low : Bool) (reach : Result ℕ Refusal)
+        → ForClock (cond none (Err NotOffered) (cond low (Err LowRank) (of_reach reach (Ok (SetClock (number_at s 1 8))))))
+    go true low reach = refuses-it NotOffered
+    go false true reach = refuses-it LowRank
+    go false false (Ok at) = sets (number_at s 1 8)
+    go false false (Err refusal) = refuses-it refusal
 
 untimed : (b : Board) → ButClock b b
 untimed b = record { rows = λ n h. refl; words = λ j h. refl }
@@ -86,10 +88,10 @@ clock-told v b =
     word-stays j h (row ∷ b) zero = get_or-set_other row 0 j v 0 (eqb-false j 0 h)
     word-stays j h (row ∷ b) (suc i) = word-stays j h b i
 
-clock-obeyed : (c : ℕ) (s : List ℕ) (o : Order) (b : Board) → ForClock o → ButClock b (obeyed c s o b).board
+clock-obeyed : (c : ℕ) (s : List ℕ) (o : Result Order Refusal) (b : Board) → ForClock o → ButClock b (served_order c s o b).board
 unfolding obeyed clock_told
 clock-obeyed c s o b (sets v) = clock-told v b
-clock-obeyed c s o b (refuses-it n place) = untimed b
+clock-obeyed c s o b (refuses-it refusal) = untimed b
 
 clock-message : (c sum : ℕ) (s : List ℕ) (b : Board) → TypeSeven s → ButClock b (served_message c (frame sum s) b).board
 unfolding served_content

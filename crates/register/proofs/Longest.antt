@@ -17,10 +17,12 @@ use Rattle.frames.proofs.Sealing.{true-sum}
 use Rattle.rows.specs.Places.{Board, line_at}
 use Rattle.devices.specs.Devices.{device_of}
 use Rattle.modules.specs.Modules.{has_module}
-use Rattle.judges.specs.declared.Order.{Order}
-use Rattle.judges.specs.declared.Order.TheVariants.{Read}
+use Rattle.std.specs.Prelude.{Result, Ok, Err}
+use Rattle.refusals.specs.declared.Refusal.{Refusal}
+use Rattle.orders.specs.declared.Order.{Order}
+use Rattle.orders.specs.declared.Order.TheVariants.{Read}
 use Rattle.layouts.specs.Layouts.{onward, finished}
-use Rattle.judges.specs.Judges.{of_reach, if_listed, judge_read}
+use Rattle.orders.specs.Judges.{of_reach, if_listed, judge_read}
 use Rattle.orders.specs.Orders.{read_of, order_of}
 use Rattle.readings.specs.Readings.{input_block, block_of, entry_of, ids_in, devices_reply, monitor_reply}
 use Rattle.external.specs.External.{external_reply}
@@ -30,7 +32,7 @@ use Rattle.answers.specs.Calls.{framed, frames_of}
 use Rattle.plain.specs.Events.{if_wanted}
 use Rattle.plain.proofs.Frames.{external-few, no_bytes}
 use Rattle.serving.specs.Obeying.{obeyed, follows_it}
-use Rattle.serving.specs.Serving.{served_content, served_message}
+use Rattle.serving.specs.Serving.{served_order, served_content, served_message}
 use Rattle.serving.proofs.Lengths.{reply-short}
 use Rattle.serving.proofs.Following.{monitor-or}
 use Rattle.register.proofs.Cases.{frame-cases}
@@ -64,10 +66,14 @@ followed-length c s p h =
     no_frames : length (frames_of []) ≡ 0
     no_frames = no_bytes
 
+order-length : (c : ℕ) (s : List ℕ) (p : Board) → length s ≤ 1024 → (o : Result Order Refusal) → length (served_order c s o p).reply ≤ 3437
+order-length c s p h (Ok o) = followed-length c s p h o
+order-length c s p h (Err refusal) = omega arith
+
 pub frame-reply : (c : ℕ) (p : Board) (sum : ℕ) (s : List ℕ) → length s ≤ 1024 → length (served_message c (frame sum s) p).reply ≤ 3437
 unfolding served_content
 frame-reply c p sum s h =
-    frame-cases c sum s p (λ d. length d.reply ≤ 3437) (followed-length c s p h (order_of s (line_at c p).rank)) (omega arith)
+    frame-cases c sum s p (λ d. length d.reply ≤ 3437) (order-length c s p h (order_of s (line_at c p).rank)) (omega arith)
 
 -- input 1's ID, n times
 unfoldable asked : ℕ → List ℕ
@@ -99,7 +105,7 @@ length-frame p = rw (length-asked 127) (omega (arith, length-entries p 127))
 abbrev asking : List ℕ
 asking = 0x15 ∷ 0x00 ∷ 0x7F ∷ asked 127
 
-asks : (rank : ℕ) → 1 ≤ rank → order_of asking rank ≡ Read 127
+asks : (rank : ℕ) → 1 ≤ rank → order_of asking rank ≡ Ok (Read 127)
 unfolding order_of read_of judge_read if_listed of_reach onward finished number_at fits
 asks rank h = rw (length-asked 127, le-ltb rank 1 h)
 

@@ -15,7 +15,8 @@ use Rattle.rows.specs.Places.{Board, is_channel, is_relay, input_at, relay_at, p
 use Rattle.rows.specs.Places.{on_rows, input_place, relay_place, first_input, first_relay, first_outer, first_line, clock_row}
 use Rattle.rows.proofs.Channel.{in-range, relay-range}
 use Rattle.devices.specs.declared.Device.{Device}
-use Rattle.devices.specs.declared.Device.TheVariants.{Din, Rout, Unknown}
+use Rattle.devices.specs.declared.Device.TheVariants.{Input as input, Relay as relay}
+use Rattle.std.specs.Prelude.{Option, Some, None}
 use Rattle.devices.specs.Devices.{device_of}
 use Rattle.modules.specs.Modules.{present}
 use Rattle.tables.specs.Time.{usage_passed, passed}
@@ -77,17 +78,17 @@ module _ {G : Board → Board → Type 0} (g : Leaves G) where
       by_cases (ltb 1 v) (λ h. rw h (g.same b))
       (λ h. rw h (by_cases (has_level k (eqb v 1) b) (λ q. rw q (g.same b)) (λ q. rw q (on-input _ k b))))
 
-  device-stays : (d : Device) (e : Entry) (b : Board) → G b (device_done d e b).board
+  device-stays : (d : Option Device) (e : Entry) (b : Board) → G b (device_done d e b).board
   unfolding device_done write_input write_relay
-  device-stays (Din k) e b =
+  device-stays (Some (input k)) e b =
       by_cases (input_size_fits e.size e.flags)
       (λ h. rw h (by_cases (ltb 7 e.flags) (λ q. rw q (g.same b)) (λ q. rw q (on-input _ k b))))
       (λ h. rw h (g.same b))
-  device-stays (Rout k) e b =
+  device-stays (Some (relay k)) e b =
       by_cases (relay_size_fits e.size e.flags)
       (λ h. rw h (by_cases (relay_fails e.flags e.state) (λ q. rw q (g.same b)) (λ q. rw q (on-relay (is_channel k) _ k b))))
       (λ h. rw h (g.same b))
-  device-stays Unknown e b = g.same b
+  device-stays None e b = g.same b
 
   pub written-stays : (content : List ℕ) (at n : ℕ) (w : Entered) → G w.board (written_from content at n w).board
   unfolding written_from

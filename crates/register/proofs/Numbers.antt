@@ -20,8 +20,11 @@ use Rattle.changes.specs.Levels.{has_level, level_of}
 use Rattle.edits.specs.Edits.{told}
 use Rattle.changes.specs.Commands.{on_present}
 use Rattle.blocks.specs.Blocks.{block_of}
-use Rattle.judges.specs.declared.Order.{Order}
-use Rattle.judges.specs.declared.Order.TheVariants.{Refused, Clock, Monitor, Usage, MonitorOff, MonitorOn, SetClock, Close, Open, Toggle, ClearCount, ClearInputUsage, ClearRelayUsage, Block, PulseRelay, PulseBlock, Read, Write, Enumerate}
+use Rattle.std.specs.Prelude.{Result, Ok, Err}
+use Rattle.refusals.specs.declared.Refusal.{Refusal as Why}
+use Rattle.refusals.specs.Refusals.{number_of as refusal_number, place_of}
+use Rattle.orders.specs.declared.Order.{Order}
+use Rattle.orders.specs.declared.Order.TheVariants.{Clock, Monitor, Usage, MonitorOff, MonitorOn, SetClock, Close, Open, Toggle, ClearCount, ClearInputUsage, ClearRelayUsage, Block, PulseRelay, PulseBlock, Read, Write, Enumerate}
 use Rattle.orders.specs.Orders.{order_of}
 use Rattle.layouts.specs.Outcomes.{early, surplus, in_list}
 use Rattle.orders.specs.Ranges.{Refusal, not-offered, low-rank, out_of_range, broken}
@@ -31,7 +34,7 @@ use Rattle.plain.specs.Events.{changed_to, leveled, if_wanted}
 use Rattle.external.specs.External.{external_reply}
 use Rattle.answers.specs.Calls.{Did, refused, refused_at, frames_of, followed_by, sealing}
 use Rattle.serving.specs.Obeying.{monitor_set, clock_told, pulsed, pulsed_relay, obeyed, follows_it}
-use Rattle.serving.specs.Serving.{served_content, served_message}
+use Rattle.serving.specs.Serving.{served_order, served_content, served_message}
 use Rattle.serving.proofs.Following.{monitor-or}
 use Rattle.register.specs.Box.{before_bytes}
 use Rattle.register.specs.Laws.{is_broken, Placed}
@@ -58,7 +61,8 @@ plainly n a t = refuses n 0 a (unplaced t refl)
 broken-at : {p : Board} (n place : ℕ) → Answering n → eqb n 10 ≡ false → is_broken n ≡ true → Judged p (refused_at n place p)
 broken-at n place a t b = refuses n place a (record { never-ten = t; else-none = λ e. absurd (true≢false (sym b ∙ e)) })
 
-refusal-judged : {p : Board} {content : List ℕ} {n place : ℕ} → Refusal content n place → Judged p (refused_at n place p)
+refusal-judged : {p : Board} {content : List ℕ} {refusal : Why} → Refusal content refusal
+    → Judged p (refused_at (refusal_number refusal) (place_of refusal) p)
 refusal-judged not-offered = plainly 8 (refl, refl) refl
 refusal-judged low-rank = plainly 9 (refl, refl) refl
 refusal-judged out_of_range = plainly 11 (refl, refl) refl
@@ -103,27 +107,26 @@ module _ (p : Board) where
   relay-judged k ms = by_cases (present k p) (λ t. rw t (pulse-judged (relay_pulse k ms))) (λ f. rw f (plainly 11 (refl, refl) refl))
 
   module _ (c : ℕ) (s : List ℕ) where
-    obeyed-judged : (o : Order) → ((n place : ℕ) → o ≡ Refused n place → Refusal s n place) → Judged p (obeyed c s o p)
+    obeyed-judged : (o : Order) → Judged p (obeyed c s o p)
     unfolding obeyed monitor_set clock_told block_of
-    obeyed-judged (Refused n place) r = refusal-judged (r n place refl)
-    obeyed-judged Clock r = serves refl refl
-    obeyed-judged Monitor r = serves refl refl
-    obeyed-judged Usage r = serves refl refl
-    obeyed-judged MonitorOff r = serves refl refl
-    obeyed-judged MonitorOn r = serves refl refl
-    obeyed-judged (SetClock v) r = serves refl refl
-    obeyed-judged (Close k) r = on-present _ k
-    obeyed-judged (Open k) r = on-present _ k
-    obeyed-judged (Toggle k) r = on-present _ k
-    obeyed-judged (ClearCount k) r = on-input _ k
-    obeyed-judged (ClearInputUsage k) r = on-input _ k
-    obeyed-judged (ClearRelayUsage k) r = on-relay (is_channel k) _ k
-    obeyed-judged (Block mask state) r = serves refl refl
-    obeyed-judged (PulseRelay k ms) r = relay-judged k ms
-    obeyed-judged (PulseBlock mask states ms) r = pulse-judged (pulse_of mask states ms)
-    obeyed-judged (Read n) r = serves refl refl
-    obeyed-judged (Write n) r = serves refl refl
-    obeyed-judged (Enumerate flags) r = serves refl refl
+    obeyed-judged Clock = serves refl refl
+    obeyed-judged Monitor = serves refl refl
+    obeyed-judged Usage = serves refl refl
+    obeyed-judged MonitorOff = serves refl refl
+    obeyed-judged MonitorOn = serves refl refl
+    obeyed-judged (SetClock v) = serves refl refl
+    obeyed-judged (Close k) = on-present _ k
+    obeyed-judged (Open k) = on-present _ k
+    obeyed-judged (Toggle k) = on-present _ k
+    obeyed-judged (ClearCount k) = on-input _ k
+    obeyed-judged (ClearInputUsage k) = on-input _ k
+    obeyed-judged (ClearRelayUsage k) = on-relay (is_channel k) _ k
+    obeyed-judged (Block mask state) = serves refl refl
+    obeyed-judged (PulseRelay k ms) = relay-judged k ms
+    obeyed-judged (PulseBlock mask states ms) = pulse-judged (pulse_of mask states ms)
+    obeyed-judged (Read n) = serves refl refl
+    obeyed-judged (Write n) = serves refl refl
+    obeyed-judged (Enumerate flags) = serves refl refl
 
   -- sealed, and with what goes behind the reply
   unfollowed : (d : Did) → Judged p d → Judged p (followed_by [] (sealing d))
@@ -141,6 +144,10 @@ module _ (p : Board) where
       (λ j. serves refl refl)
       (λ order none j. rw (none (has_module p)) (unfollowed (obeyed c s order p) j))
 
+  order-judged : (c : ℕ) (s : List ℕ) (o : Result Order Why) → ((refusal : Why) → o ≡ Err refusal → Refusal s refusal) → Judged p (served_order c s o p)
+  order-judged c s (Ok o) r = followed-judged c s o (obeyed-judged c s o)
+  order-judged c s (Err refusal) r = refusal-judged (r refusal refl)
+
   pub message-judged : (c : ℕ) (g : Got) → Judged p (served_message c g p)
   unfolding served_message served_content
   message-judged c keep_alive = plainly 2 (refl, refl) refl
@@ -148,7 +155,7 @@ module _ (p : Board) where
   message-judged c too_long = plainly 6 (refl, refl) refl
   message-judged c (frame sum s) =
       frame-cases c sum s p (Judged p)
-      (followed-judged c s (order_of s (line_at c p).rank) (obeyed-judged c s (order_of s (line_at c p).rank) (λ n place e. refusals s (line_at c p).rank e)))
+      (order-judged c s (order_of s (line_at c p).rank) (λ refusal e. refusals s (line_at c p).rank e))
       (plainly 7 (refl, refl) refl)
 
 -- so a message is always answered by a number of its own

@@ -13,8 +13,10 @@ use lib.ListN.{length, set}
 use lib.Seq.{get_or-set_other}
 use Rattle.laws.proofs.Tests.{by_cases}
 use Rattle.steps.specs.Cut.{Got, keep_alive, stray, too_long, frame}
-use Rattle.judges.specs.declared.Order.{Order}
-use Rattle.judges.specs.declared.Order.TheVariants.{Refused, Clock, Monitor, Usage, MonitorOff, MonitorOn, SetClock, Close, Open, Toggle, ClearCount, ClearInputUsage, ClearRelayUsage, Block, PulseRelay, PulseBlock, Read, Write, Enumerate}
+use Rattle.std.specs.Prelude.{Result, Ok, Err}
+use Rattle.refusals.specs.declared.Refusal.{Refusal}
+use Rattle.orders.specs.declared.Order.{Order}
+use Rattle.orders.specs.declared.Order.TheVariants.{Clock, Monitor, Usage, MonitorOff, MonitorOn, SetClock, Close, Open, Toggle, ClearCount, ClearInputUsage, ClearRelayUsage, Block, PulseRelay, PulseBlock, Read, Write, Enumerate}
 use Rattle.records.specs.declared.Line.{Line}
 use Rattle.records.specs.declared.Queue.{Queue}
 use Rattle.records.specs.Records.{queue_in, external_word}
@@ -22,6 +24,7 @@ use Rattle.rows.specs.Places.{Board, is_channel, is_connection, row_at, line_at,
 use Rattle.rows.proofs.Range.{beyond}
 use Rattle.modules.specs.declared.Moved.{Moved}
 use Rattle.modules.specs.Modules.{present, has_module}
+use Rattle.changes.specs.Answers.{moved_of}
 use Rattle.changes.specs.Levels.{level_of}
 use Rattle.orders.specs.Orders.{order_of}
 use Rattle.writes.specs.Writes.{so_far}
@@ -32,7 +35,7 @@ use Rattle.ring.specs.Ring.{pulse_of, relay_pulse, runs, is_full, joined}
 use Rattle.pulses.proofs.Passing.{has-row, told-again}
 use Rattle.plain.specs.Events.{leveled, monitors_sent}
 use Rattle.serving.specs.Obeying.{monitor_set, clock_told, pulsed, pulsed_relay, obeyed}
-use Rattle.serving.specs.Serving.{served_content, served_message}
+use Rattle.serving.specs.Serving.{served_order, served_content, served_message}
 use Rattle.register.specs.Box.{Event, level, connect, close, collect, fill, empty, Tables, happens}
 use Rattle.register.proofs.Moving.{Leaves, clock-stays, block-stays, on-input, on-relay, on-present, level-stays, written-stays}
 use Rattle.register.proofs.Filling.{Fills, filled_keeps, emptied-keeps}
@@ -95,7 +98,7 @@ pub data Timeless : Event → Type 0 where
 
 pub queue-event : {e : Event} → Timeless e → (t : Tables) → Beside t.board (happens e t).board
 unfolding leveled monitors_sent
-queue-event (telling k v) t = follows (level_of k v t.board).changed (level-stays leaves-queue k v t.board)
+queue-event (telling k v) t = follows (moved_of (level_of k v t.board).outcome) (level-stays leaves-queue k v t.board)
 queue-event (opening c rank strict) t =
     let b : Board = t.board in
     connect-cases c b rank strict (λ d. Beside b d.board) (same b) (same b) (same b) (λ u. line-beside c _ b)
@@ -123,7 +126,6 @@ relay-asks k ms b = by_cases (present k b) (λ t. rw t (pulsed-asks (relay_pulse
 
 obeyed-asks : (c : ℕ) (s : List ℕ) (o : Order) (b : Board) → Asked b (obeyed c s o b).board
 unfolding obeyed monitor_set clock_told
-obeyed-asks c s (Refused n place) b = nothing (same b)
 obeyed-asks c s Clock b = nothing (same b)
 obeyed-asks c s Monitor b = nothing (same b)
 obeyed-asks c s Usage b = nothing (same b)
@@ -143,12 +145,16 @@ obeyed-asks c s (Read n) b = nothing (same b)
 obeyed-asks c s (Write n) b = nothing (follows _ (written-stays leaves-queue s 3 n (so_far b 0 false)))
 obeyed-asks c s (Enumerate flags) b = nothing (same b)
 
+order-asks : (c : ℕ) (s : List ℕ) (o : Result Order Refusal) (b : Board) → Asked b (served_order c s o b).board
+order-asks c s (Ok o) b = obeyed-asks c s o b
+order-asks c s (Err refusal) b = nothing (same b)
+
 pub queue-message : (c : ℕ) (g : Got) (b : Board) → Asked b (served_message c g b).board
 unfolding served_message served_content
 queue-message c keep_alive b = nothing (same b)
 queue-message c stray b = nothing (same b)
 queue-message c too_long b = nothing (same b)
-queue-message c (frame sum s) b = frame-cases c sum s b (λ d. Asked b d.board) (obeyed-asks c s (order_of s (line_at c b).rank) b) (nothing (same b))
+queue-message c (frame sum s) b = frame-cases c sum s b (λ d. Asked b d.board) (order-asks c s (order_of s (line_at c b).rank) b) (nothing (same b))
 
 -- ---- the running pulse
 

@@ -12,13 +12,16 @@ use lib.ListN.{length, set}
 use lib.Seq.{get_or-set_other}
 use Rattle.laws.proofs.Tests.{by_cases}
 use Rattle.steps.specs.Cut.{Got, keep_alive, stray, too_long, frame}
-use Rattle.judges.specs.declared.Order.{Order}
-use Rattle.judges.specs.declared.Order.TheVariants.{Refused, Clock, Monitor, Usage, MonitorOff, MonitorOn, SetClock, Close, Open, Toggle, ClearCount, ClearInputUsage, ClearRelayUsage, Block, PulseRelay, PulseBlock, Read, Write, Enumerate}
+use Rattle.std.specs.Prelude.{Result, Ok, Err}
+use Rattle.refusals.specs.declared.Refusal.{Refusal}
+use Rattle.orders.specs.declared.Order.{Order}
+use Rattle.orders.specs.declared.Order.TheVariants.{Clock, Monitor, Usage, MonitorOff, MonitorOn, SetClock, Close, Open, Toggle, ClearCount, ClearInputUsage, ClearRelayUsage, Block, PulseRelay, PulseBlock, Read, Write, Enumerate}
 use Rattle.records.specs.declared.Line.{Line}
 use Rattle.rows.specs.Places.{Board, is_channel, is_connection, row_at, line_at, put_line, on_rows, line_place, first_line, queue_row, queue_of}
 use Rattle.records.specs.Records.{is_on, line_in, line_words, external_word, shut_line}
 use Rattle.rows.proofs.Range.{beyond}
 use Rattle.records.proofs.Views.{line-again}
+use Rattle.changes.specs.Answers.{moved_of}
 use Rattle.changes.specs.Levels.{level_of}
 use Rattle.orders.specs.Orders.{order_of}
 use Rattle.writes.specs.Writes.{so_far}
@@ -33,7 +36,7 @@ use Rattle.connections.specs.Lines.{is_open, is_strict}
 use Rattle.marks.specs.Marks.{with_marks, with_monitor, watches, marked_row, any_moved, marked, external_cleared}
 use Rattle.plain.specs.Events.{leveled, time_passed, monitors_sent, collected}
 use Rattle.serving.specs.Obeying.{monitor_set, clock_told, pulsed, pulsed_relay, obeyed}
-use Rattle.serving.specs.Serving.{served_content, served_message}
+use Rattle.serving.specs.Serving.{served_order, served_content, served_message}
 use Rattle.register.proofs.Moving.{Leaves, clock-stays, passed-stays, block-stays, on-input, on-relay, on-present, level-stays, written-stays}
 use Rattle.register.proofs.Filling.{Fills, filled_keeps, emptied-keeps}
 use Rattle.register.proofs.Cases.{frame-cases, collect-cases}
@@ -194,7 +197,7 @@ follows changed b b' e = then e (marked-stays changed b')
 
 pub level-event : (k v : ℕ) (b : Board) → Unmarked b (leveled k v b).board
 unfolding leveled
-level-event k v b = follows (level_of k v b).changed b (level_of k v b).board (level-stays connections-stay k v b)
+level-event k v b = follows (moved_of (level_of k v b).outcome) b (level_of k v b).board (level-stays connections-stay k v b)
 
 -- pulses leave the connections as all they are made of does
 pulses-stay : (b : Board) → Keeps (Unmarked b)
@@ -247,7 +250,6 @@ makes changed b b' e = quiet (follows changed b b' e)
 
 obeyed-touches : (c : ℕ) (s : List ℕ) (o : Order) (b : Board) → Touches c b (obeyed c s o b).board
 unfolding obeyed monitor_set clock_told
-obeyed-touches c s (Refused n place) b = still
 obeyed-touches c s Clock b = still
 obeyed-touches c s Monitor b = still
 obeyed-touches c s Usage b = still
@@ -267,9 +269,13 @@ obeyed-touches c s (Read n) b = still
 obeyed-touches c s (Write n) b = makes _ b _ (written-stays connections-stay s 3 n (so_far b 0 false))
 obeyed-touches c s (Enumerate flags) b = still
 
+order-touches : (c : ℕ) (s : List ℕ) (o : Result Order Refusal) (b : Board) → Touches c b (served_order c s o b).board
+order-touches c s (Ok o) b = obeyed-touches c s o b
+order-touches c s (Err refusal) b = still
+
 pub message-touches : (c : ℕ) (g : Got) (b : Board) → Touches c b (served_message c g b).board
 unfolding served_message served_content
 message-touches c keep_alive b = still
 message-touches c stray b = still
 message-touches c too_long b = still
-message-touches c (frame sum s) b = frame-cases c sum s b (λ d. Touches c b d.board) (obeyed-touches c s (order_of s (line_at c b).rank) b) still
+message-touches c (frame sum s) b = frame-cases c sum s b (λ d. Touches c b d.board) (order-touches c s (order_of s (line_at c b).rank) b) still

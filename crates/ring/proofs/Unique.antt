@@ -1,10 +1,10 @@
 -- For one input, two answers that a contract allows are equal.
 use mathlib.Core.Path.{◌≡◌, sym, ◌∙◌}
-use Rattle.ring.proofs.relay_pulse.Reads as relay-pulse
-use Rattle.ring.proofs.block_pulse.Reads as block-pulse
+use Rattle.ring.proofs.Pulse.relay.Reads as relay-pulse
+use Rattle.ring.proofs.Pulse.block.Reads as block-pulse
 use Rattle.ring.proofs.place_in.Reads as place-in
 use Rattle.ring.proofs.join.Reads as join
-use Rattle.ring.proofs.newest_of.Reads as newest-of
+use Rattle.ring.proofs.Pulse.newest.Reads as newest
 use Rattle.ring.proofs.seat.Reads as seat
 use Rattle.ring.proofs.pop.Reads as pop
 
@@ -20,8 +20,8 @@ unique-place-in κs a r r' s s' p q = p ∙ sym q
 pub unique-join : (κs : _) (a : _) (r r' : _) (s s' : _) → join.Post κs a r s → join.Post κs a r' s' → r ≡ r'
 unique-join κs a r r' s s' p q = p ∙ sym q
 
-pub unique-newest-of : (κs : _) (a : _) (r r' : _) (s s' : _) → newest-of.Post κs a r s → newest-of.Post κs a r' s' → r ≡ r'
-unique-newest-of κs a r r' s s' p q = p ∙ sym q
+pub unique-newest : (κs : _) (a : _) (r r' : _) (s s' : _) → newest.Post κs a r s → newest.Post κs a r' s' → r ≡ r'
+unique-newest κs a r r' s s' p q = p ∙ sym q
 
 pub unique-seat : (κs : _) (a : _) (r r' : _) (s s' : _) → seat.Post κs a r s → seat.Post κs a r' s' → r ≡ r'
 unique-seat κs a r r' s s' p q = p ∙ sym q

@@ -1,5 +1,5 @@
 -- Pulses asked for, and their queue as a ring. Document 02, M-100.
-use Rattle.std.specs.Prelude.{Bool, cond, List, ℕ, ◌+◌, ◌-◌, ◌%◌, ◌^◌, min, leb, ltb, get_or, set}
+use Rattle.std.specs.Prelude.{Bool, cond, List, Option, Some, None, ℕ, ◌+◌, ◌-◌, ◌%◌, ◌^◌, min, leb, ltb, get_or, set}
 use Rattle.records.specs.declared.Queue.{Queue}
 use Rattle.rows.specs.Places.{Board, is_relay, queue_of}
 use Rattle.ring.specs.declared.Pulse.{Pulse}
@@ -60,9 +60,9 @@ joined p q =
 unfoldable pub newest : Board → Pulse
 newest b = pulse_of ((queue_of b).mask % 2 ^ 16) ((queue_of b).states % 2 ^ 16) ((queue_of b).duration % 2 ^ 32)
 
--- 02, M-100, 5: its place in the row, where there is one more behind a message than before it; else none, behind the row's end
-unfoldable pub seat_of : ℕ → Queue → Queue → ℕ
-seat_of records before after = cond (ltb before.standing after.standing) (place after (after.standing - 1)) records
+-- 02, M-100, 5: its place in the row, where there is one more behind a message than before it; else none
+unfoldable pub seat_of : Queue → Queue → Option ℕ
+seat_of before after = cond (ltb before.standing after.standing) (Some (place after (after.standing - 1))) None
 
 -- 02, M-100, 5: the row after a message: the request that it added to the queue, if one, stands behind the last; every other record stays
 unfoldable pub row_after : Board → Board → List Pulse → List Pulse

@@ -4,45 +4,64 @@
 
 #![tactic(auto)]
 
-ghost use Rattle.std.specs.Prelude.{◌≡◌, cond, ◌-◌, min};
+ghost use Rattle.std.specs.Prelude.{◌≡◌, cond};
 ghost use Rattle.ring.specs.Ring.{pulse_of, relay_pulse, is_full, place, popped, joined, newest, seat_of};
 
 use records::Queue;
-use rows::ROWS;
+use rows::Board;
+
+// How many pulses stand at most.
+pub const PLACES: u64 = 31;
 
 // The masked relays take these states for so many ms.
 #[repr(C)]
-#[derive(Clone, Copy)]
+#[derive(Clone, Copy, Debug, Default, PartialEq, Eq)]
 pub struct Pulse {
     pub mask: u16,
     pub states: u16,
     pub duration: u32,
 }
 
-// Action 6: relay k is closed for so many ms.
-#[tactic(auto, unfolding(crate::specs::Ring::relay_pulse))]
-pub fn relay_pulse(k: u16, duration: u32) -> Pulse
-    ensures { result ≡ relay_pulse k duration }
-{
-    let mut mask: u16 = 0;
-    if rows::is_relay(k as usize) {
-        mask = 1 << (k - 1);
+impl Pulse {
+    // Action 6: relay k is closed for so many ms.
+    #[tactic(auto, unfolding(crate::specs::Ring::relay_pulse))]
+    pub fn relay(k: u16, duration: u32) -> Pulse
+        ensures { result ≡ relay_pulse k duration }
+    {
+        let mask = if rows::is_relay(usize::from(k)) {
+            1 << (k - 1)
+        } else {
+            0
+        };
+        Pulse {
+            mask,
+            states: mask,
+            duration,
+        }
     }
-    Pulse {
-        mask,
-        states: mask,
-        duration,
-    }
-}
 
-// Action 7: the masked relays take these states for so many ms; a mask of a byte names relays 1 to 8.
-pub fn block_pulse(mask: u8, states: u8, duration: u32) -> Pulse
-    ensures { result ≡ pulse_of mask states duration }
-{
-    Pulse {
-        mask: mask as u16,
-        states: states as u16,
-        duration,
+    // Action 7: the masked relays take these states for so many ms; a mask of a byte names relays 1 to 8.
+    pub fn block(mask: u8, states: u8, duration: u32) -> Pulse
+        ensures { result ≡ pulse_of mask states duration }
+    {
+        Pulse {
+            mask: u16::from(mask),
+            states: u16::from(states),
+            duration,
+        }
+    }
+
+    // The request that was accepted last, as it goes into the row; what is above a field's width is cut off.
+    #[tactic(auto, unfolding(crate::specs::Ring::newest))]
+    pub fn newest(board: &Board) -> Pulse
+        ensures { result ≡ newest board.now }
+    {
+        let q = board.queue();
+        Pulse {
+            mask: (q.mask % 0x1_0000) as u16,
+            states: (q.states % 0x1_0000) as u16,
+            duration: (q.duration % 0x1_0000_0000) as u32,
+        }
     }
 }
 
@@ -50,62 +69,35 @@ pub fn block_pulse(mask: u8, states: u8, duration: u32) -> Pulse
 pub fn place_in(q: Queue, k: u64) -> usize
     ensures { result ≡ place q k }
 {
-    ((q.first % 31 + k % 31) % 31) as usize
+    ((q.first % PLACES + k % PLACES) % PLACES) as usize
 }
 
 // The queue with a request more, behind the last; where 31 stand it takes none.
 pub fn join(q: Queue, p: Pulse) -> Queue
     ensures { result ≡ cond (is_full q) q (joined p q) }
 {
-    if 31 <= q.standing {
+    if q.standing >= PLACES {
         return q;
     }
     Queue {
-        first: q.first,
         standing: q.standing + 1,
-        left: q.left,
-        remembered: q.remembered,
-        mask: p.mask as u64,
-        states: p.states as u64,
-        duration: p.duration as u64,
+        mask: u64::from(p.mask),
+        states: u64::from(p.states),
+        duration: u64::from(p.duration),
+        ..q
     }
 }
 
-// The request that was accepted last, as it goes into the row.
-#[tactic(auto, unfolding(crate::specs::Ring::newest))]
-pub fn newest_of(board: &[[u64; 8]; ROWS]) -> Pulse
-    ensures { result ≡ newest board.now }
-{
-    let q = rows::queue_of(board);
-    Pulse {
-        mask: (q.mask % 0x1_0000) as u16,
-        states: (q.states % 0x1_0000) as u16,
-        duration: (q.duration % 0x1_0000_0000) as u32,
-    }
-}
-
-// Its place in a row of so many records, where more pulses stand than did before; else none, behind the row's end.
+// The place of the request that a message added to the queue, where it added one: more stand behind it than did before.
 #[tactic(auto, unfolding(crate::specs::Ring::seat_of))]
-pub fn seat(before: Queue, after: Queue, records: usize) -> usize
-    ensures { result ≡ seat_of records before after }
+pub fn seat(before: Queue, after: Queue) -> Option<usize>
+    ensures { result ≡ seat_of before after }
 {
     if before.standing < after.standing {
-        return place_in(after, after.standing - 1);
+        Some(place_in(after, after.standing - 1))
+    } else {
+        None
     }
-    records
-}
-
-// How many stand when the first is gone; of a number above 31, 31 stood.
-fn one_less(standing: u64) -> u64
-    ensures { result ≡ min standing 31 - 1 }
-{
-    if 31 < standing {
-        return 30;
-    }
-    if standing == 0 {
-        return 0;
-    }
-    standing - 1
 }
 
 // The first is gone.
@@ -114,11 +106,9 @@ pub fn pop(q: Queue) -> Queue
 {
     Queue {
         first: place_in(q, 1) as u64,
-        standing: one_less(q.standing),
+        standing: q.standing.min(PLACES).saturating_sub(1),
         left: 0,
         remembered: 0,
-        mask: q.mask,
-        states: q.states,
-        duration: q.duration,
+        ..q
     }
 }

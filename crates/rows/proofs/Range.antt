@@ -4,15 +4,18 @@
 --     beyond      a row behind them stays
 --     one-by-two  the first n rows, and then so many more, are all of them
 --     none-moved  rows that are left as they are
+--     rows-looped n rows from `from` on, each by the same function, as a loop over them leaves them
 --     rows-flow   time that passes for each of these rows flows
 use mathlib.Core.Path.{◌≡◌, refl, sym, ap, ◌∙◌}
-use mathlib.Core.List.{List, [], ◌∷◌}
+use mathlib.Core.List.{List, [], ◌∷◌, ◌++◌, map}
 use Prim.Native.Nat.{ℕ, zero, suc, ◌+◌, ◌≤◌, ◌<◌, zero-le}
 use native.Mathlib.Nat.{le_antisymm, add-zero, zero-add, le_refl, not-suc-le-zero, le_of_suc-le-suc}
 use native.Mathlib.Omega.{arith}
 use native.Mathlib.Numerals.{add-one}
-use lib.ListN.{length, get_or, set}
-use lib.Seq.{set-get_or}
+use lib.ListN.{length, get_or, set, take, drop}
+use lib.Seq.{set-get_or, take-nil, drop-nil}
+use Rattle.std.proofs.Math.ListN.{drop_of_length-le}
+use Rattle.std.proofs.lemmas.List.{append-nil, take-append-drop}
 use Rattle.laws.proofs.Flow.{Flow}
 use Rattle.rows.specs.Places.{Board, row_at, on_rows}
 
@@ -73,6 +76,25 @@ module _ {from n : ℕ} {f : ℕ → List ℕ → List ℕ} {b₀ : Board} where
 
   pub range-done : {b : Board} {k : ℕ} → Ranging from n f b₀ b k → n ≤ k → b ≡ on_rows from n f b₀
   range-done {b} {k} m h = m.so-far ∙ ap (λ (j : ℕ). on_rows from j f b₀) (le_antisymm m.in-range h)
+
+mapped : (from n : ℕ) (f : List ℕ → List ℕ) (b : Board)
+    → take from b ++ (map f (take n (drop from b)) ++ drop n (drop from b)) ≡ on_rows from n (λ _. f) b
+unfolding on_rows
+mapped from n f [] = rw (take-nil from, drop-nil {A = List ℕ} from, take-nil {A = List ℕ} n, drop-nil {A = List ℕ} n)
+mapped zero zero f (row ∷ b) = refl
+mapped zero (suc n) f (row ∷ b) = ap (λ (l : Board). f row ∷ l) (mapped zero n f b)
+mapped (suc from) n f (row ∷ b) = ap (λ (l : Board). row ∷ l) (mapped from n f b)
+
+all-taken : (n : ℕ) (b : Board) → length b ≤ n → take n b ≡ b
+all-taken n b h = sym (append-nil (take n b)) ∙ ap (λ (l : Board). take n b ++ l) (sym (drop_of_length-le b h)) ∙ take-append-drop n b
+
+-- n rows from `from` on, each by the same function, as a loop over them leaves them behind its turn k, the last
+pub rows-looped : (from n : ℕ) (f : List ℕ → List ℕ) {b b₀ items : Board} {k : ℕ} → b ≡ b₀ → length (take n (drop from b)) ≤ k
+    → items ≡ map f (take k (take n (drop from b))) ++ drop k (take n (drop from b))
+    → take from b ++ (items ++ drop n (drop from b)) ≡ on_rows from n (λ _. f) b₀
+rows-looped from n f {b} v l e =
+    let part = take n (drop from b) in
+    rw (e, all-taken _ part l, drop_of_length-le part l, append-nil (map f part), ← v) (mapped from n f b)
 
 -- the first n rows and then so many more
 pub one-by-two : (from n m : ℕ) (f : ℕ → List ℕ → List ℕ) (b : Board) → on_rows from (n + m) f b ≡ on_rows (from + n) m (λ k. f (n + k)) (on_rows from n f b)

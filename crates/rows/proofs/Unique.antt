@@ -2,18 +2,18 @@
 use mathlib.Core.Path.{◌≡◌, sym, ◌∙◌}
 use Rattle.rows.proofs.is_channel.Reads as is-channel
 use Rattle.rows.proofs.is_relay.Reads as is-relay
-use Rattle.rows.proofs.input_at.Reads as input-at
-use Rattle.rows.proofs.put_input.Reads as put-input
-use Rattle.rows.proofs.relay_at.Reads as relay-at
-use Rattle.rows.proofs.put_relay.Reads as put-relay
-use Rattle.rows.proofs.line_at.Reads as line-at
-use Rattle.rows.proofs.put_line.Reads as put-line
-use Rattle.rows.proofs.set_due.Reads as set-due
-use Rattle.rows.proofs.clock.Reads as clock
-use Rattle.rows.proofs.set_clock.Reads as set-clock
-use Rattle.rows.proofs.queue_of.Reads as queue-of
-use Rattle.rows.proofs.put_queue.Reads as put-queue
-use Rattle.rows.proofs.set_left.Reads as set-left
+use Rattle.rows.proofs.Board.input_at.Reads as input-at
+use Rattle.rows.proofs.Board.put_input.Reads as put-input
+use Rattle.rows.proofs.Board.relay_at.Reads as relay-at
+use Rattle.rows.proofs.Board.put_relay.Reads as put-relay
+use Rattle.rows.proofs.Board.line_at.Reads as line-at
+use Rattle.rows.proofs.Board.put_line.Reads as put-line
+use Rattle.rows.proofs.Board.set_due.Reads as set-due
+use Rattle.rows.proofs.Board.clock.Reads as clock
+use Rattle.rows.proofs.Board.set_clock.Reads as set-clock
+use Rattle.rows.proofs.Board.queue.Reads as queue-of
+use Rattle.rows.proofs.Board.put_queue.Reads as put-queue
+use Rattle.rows.proofs.Board.set_left.Reads as set-left
 
 pub unique-is-channel : (κs : _) (a : _) (r r' : _) (s s' : _) → is-channel.Post κs a r s → is-channel.Post κs a r' s' → r ≡ r'
 unique-is-channel κs a r r' s s' p q = p ∙ sym q

@@ -10,10 +10,10 @@ use native.Mathlib.Nat.{zero-add}
 use lib.ListN.{length}
 use Rattle.laws.specs.Put.{Wrote}
 use Rattle.laws.proofs.Put.{then, length-put}
-use Rattle.judges.specs.declared.Order.{Order}
-use Rattle.judges.specs.declared.Order.TheVariants.{Refused, Clock, Monitor, Usage, MonitorOff, MonitorOn, SetClock, Close, Open}
-use Rattle.judges.specs.declared.Order.TheVariants.{Toggle, ClearCount, ClearInputUsage, ClearRelayUsage, Block}
-use Rattle.judges.specs.declared.Order.TheVariants.{PulseRelay, PulseBlock, Read, Write, Enumerate}
+use Rattle.orders.specs.declared.Order.{Order}
+use Rattle.orders.specs.declared.Order.TheVariants.{Clock, Monitor, Usage, MonitorOff, MonitorOn, SetClock, Close, Open}
+use Rattle.orders.specs.declared.Order.TheVariants.{Toggle, ClearCount, ClearInputUsage, ClearRelayUsage, Block}
+use Rattle.orders.specs.declared.Order.TheVariants.{PulseRelay, PulseBlock, Read, Write, Enumerate}
 use Rattle.rows.specs.Places.{Board}
 use Rattle.modules.specs.Modules.{has_module}
 use Rattle.external.specs.External.{external_reply, external_room}
@@ -26,7 +26,6 @@ use Rattle.serving.proofs.Lengths.{reply-short}
 
 pub monitor-or : (P : Order → Type 0) → P Monitor → ((order : Order) → ((there : Bool) → follows_it order there ≡ false) → P order) → (order : Order) → P order
 unfolding follows_it
-monitor-or P asked else (Refused n place) = else (Refused n place) (λ there. refl)
 monitor-or P asked else Clock = else Clock (λ there. refl)
 monitor-or P asked else Monitor = asked
 monitor-or P asked else Usage = else Usage (λ there. refl)

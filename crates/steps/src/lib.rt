@@ -4,19 +4,20 @@
 #![tactic(auto)]
 
 ghost use Rattle.std.specs.Prelude.{◌≡◌, ◌+◌, ◌*◌, ◌%◌};
-ghost use Rattle.steps.specs.Steps.{after_of, first_of, step_of};
+ghost use Rattle.steps.specs.Steps.{after_of, first_of, step_of, half_after};
 
 // How far a message has been read: bytes taken, and what its header says so far.
 #[repr(C)]
-#[derive(Clone, Copy)]
+#[derive(Clone, Copy, Debug, PartialEq, Eq)]
 pub struct Half {
     pub got: u32,
     pub len: u16,
     pub sum: u16,
 }
 
-// What a byte comes to: the message waits for more, or one has ended. A Message has its length and its sent checksum.
-#[derive(Clone, Copy)]
+// What a byte comes to: the message waits for more, or one has ended. A Message has its length and its sent checksum. An enum with these cases
+// and no Result: 01, Forms, 15 names them, and `demand` cites them case by case.
+#[derive(Clone, Copy, Debug, PartialEq, Eq)]
 pub enum Outcome {
     Waiting(Half),
     KeepAlive,
@@ -24,11 +25,75 @@ pub enum Outcome {
     Message(u16, u16),
 }
 
-// A byte is never widened with its sign.
-fn wide(b: u8) -> u16
-    ensures { result ≡ b % 256 }
-{
-    b as u16
+impl Half {
+    // Nothing read.
+    pub const NOTHING: Half = Half {
+        got: 0,
+        len: 0,
+        sum: 0,
+    };
+
+    // After byte `got`, counted from 0, of a frame whose header is in.
+    #[tactic(auto, unfolding(crate::specs::Steps::after_of))]
+    fn after(self) -> Outcome
+        ensures { result ≡ after_of self.got self.len self.sum }
+    {
+        let Half { got, len, sum } = self;
+        if got < 4 + u32::from(len) {
+            return Outcome::Waiting(Half {
+                got: got + 1,
+                len,
+                sum,
+            });
+        }
+        Outcome::Message(len, sum)
+    }
+
+    // One byte more of a message.
+    #[tactic(auto, unfolding(crate::specs::Steps::step_of))]
+    pub fn step(self, b: u8) -> Outcome
+        ensures { result ≡ step_of self b }
+    {
+        let Half { got, len, sum } = self;
+        let n = u16::from(b);
+        match got {
+            0 => first(b),
+            1 => Outcome::Waiting(Half {
+                got: 2,
+                len: n * 256,
+                sum: 0,
+            }),
+            2 => Outcome::Waiting(Half {
+                got: 3,
+                len: len / 256 * 256 + n,
+                sum: 0,
+            }),
+            3 => Outcome::Waiting(Half {
+                got: 4,
+                len,
+                sum: n * 256,
+            }),
+            4 => Half {
+                got,
+                len,
+                sum: sum / 256 * 256 + n,
+            }
+            .after(),
+            _ => Half { got, len, sum }.after(),
+        }
+    }
+}
+
+impl Outcome {
+    // What is half read then.
+    pub fn half(self) -> Half
+        ensures { result ≡ half_after self }
+    {
+        match self {
+            Outcome::Waiting(half) => half,
+            _ => Half::NOTHING,
+        }
+    }
 }
 
 // At a message start.
@@ -36,81 +101,25 @@ fn wide(b: u8) -> u16
 fn first(b: u8) -> Outcome
     ensures { result ≡ first_of b }
 {
-    if b == 1 {
-        return Outcome::Waiting(Half {
+    match b {
+        1 => Outcome::Waiting(Half {
             got: 1,
             len: 0,
             sum: 0,
-        });
+        }),
+        6 => Outcome::KeepAlive,
+        _ => Outcome::Stray,
     }
-    if b == 6 {
-        return Outcome::KeepAlive;
-    }
-    Outcome::Stray
-}
-
-// After byte `got`, counted from 0, of a frame whose header is in.
-#[tactic(auto, unfolding(crate::specs::Steps::after_of))]
-fn after(got: u32, len: u16, sum: u16) -> Outcome
-    ensures { result ≡ after_of got len sum }
-{
-    if got < 4 + (len as u32) {
-        return Outcome::Waiting(Half {
-            got: got + 1,
-            len,
-            sum,
-        });
-    }
-    Outcome::Message(len, sum)
-}
-
-// One byte more of a message.
-#[tactic(auto, unfolding(crate::specs::Steps::step_of))]
-pub fn step(h: Half, b: u8) -> Outcome
-    ensures { result ≡ step_of h b }
-{
-    if h.got == 0 {
-        return first(b);
-    }
-    let got = h.got;
-    let n = wide(b);
-    if got == 1 {
-        return Outcome::Waiting(Half {
-            got: 2,
-            len: n * 256,
-            sum: 0,
-        });
-    }
-    if got == 2 {
-        return Outcome::Waiting(Half {
-            got: 3,
-            len: h.len / 256 * 256 + n,
-            sum: 0,
-        });
-    }
-    if got == 3 {
-        return Outcome::Waiting(Half {
-            got: 4,
-            len: h.len,
-            sum: n * 256,
-        });
-    }
-    if got == 4 {
-        return after(4, h.len, h.sum / 256 * 256 + n);
-    }
-    after(got, h.len, h.sum)
-}
-
-// The number in two bytes of a header.
-fn two(high: u8, low: u8) -> u16
-    ensures { result ≡ high % 256 * 256 + low % 256 }
-{
-    wide(high) * 256 + wide(low)
 }
 
 // The four bytes behind a frame's 0x01 together: its length, then its checksum.
 pub fn header(a: u8, b: u8, c: u8, d: u8) -> Outcome
     ensures { result ≡ after_of 4 (a % 256 * 256 + b % 256) (c % 256 * 256 + d % 256) }
 {
-    after(4, two(a, b), two(c, d))
+    Half {
+        got: 4,
+        len: u16::from_be_bytes([a, b]),
+        sum: u16::from_be_bytes([c, d]),
+    }
+    .after()
 }

@@ -1,3 +1,4 @@
 pub mod Channels
 pub mod Sending
 pub mod Unique
+pub mod Writing

@@ -1,1 +1,2 @@
 pub mod Writers
+pub mod Writing

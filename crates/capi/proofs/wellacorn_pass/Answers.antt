@@ -1,22 +1,20 @@
 -- `capi::wellacorn_pass`: a call in which no pulse ends, or else the other function's.
-use Rattle.std.proofs.Common.{refl}
-use borrow.Author.Tests.{eq-eqb, ne_eqb}
-use Rattle.pulses.specs.Pulses.{waited}
-use Rattle.pulses.proofs.Passing.{passing-at-once}
-use Rattle.board.proofs.Timed.{pass-ends}
-use Rattle.capi.proofs.Turns.{pulsed-ends}
+use Rattle.board.proofs.Timed.{pass-refused, pass-quiet}
+use Rattle.capi.proofs.Turns.{at-once}
 use Rattle.capi.proofs.wellacorn_pass.Goals as goal
-use Rattle.capi.proofs.wellacorn_pass.Goals.{then-answer-eq-WAITING, else-answer-eq-WAITING}
+use Rattle.capi.proofs.wellacorn_pass.Goals.{in-Err, in-Ok-true, in-Ok-false}
 
 pub returns : goal.returns
 returns c =
     let b = c.args.board.now in
     let row = c.args.row.now in
-    let r = c.at_once-answer.result in
-    elim c.if-answer-eq-WAITING.branch [
-      | then-answer-eq-WAITING w ↦ rw (w.board-is, c.passed.ensures, w.answer-is)
-          (pulsed-ends row c.args.d r _ b c.at_once-answer.new.board _ (waited c.args.d b) (eq-eqb r 0 w.if-answer-eq-WAITING.true)
-          c.at_once-answer.ensures.board_after w.wellacorn_pass_pulsed-answer.ensures)
-      | else-answer-eq-WAITING w ↦ rw (w.board-is, c.passed.ensures, w.answer-is)
-          (pass-ends (passing-at-once r c.at_once-answer.ensures.board_after c.at_once-answer.ensures.value (ne_eqb r 0 w.if-answer-eq-WAITING.false)) refl)
+    let z = c.at_once.new.board in
+    let says = at-once row c.args.d b z c.at_once.result c.at_once.ensures.board_after c.at_once.ensures.value in
+    elim c.match-at_once.branch [
+      | in-Err w ↦ let s = rw w.in-Err.is at says in
+          rw (w.board-is, c.passed.ensures, w.answer-is, w.number-answer.ensures, s.2) (pass-refused row c.args.d b z s.0 s.1)
+      | in-Ok-true w ↦ let s = rw (w.in-Ok-true.is, w.in-Ok-true.field-0-test) at says in
+          rw (w.board-is, c.passed.ensures, w.answer-is) (rw s at w.wellacorn_pass_pulsed-answer.ensures)
+      | in-Ok-false w ↦ let s = rw (w.in-Ok-false.is, w.in-Ok-false.field-0-test) at says in
+          rw (w.board-is, c.passed.ensures, w.answer-is) (pass-quiet row c.args.d b z s.0 s.1 s.2)
     ]

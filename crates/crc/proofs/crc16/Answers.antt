@@ -1,16 +1,12 @@
 -- `crc::crc16`: the rest of the bytes, after the sum so far, gives what the whole does.
-use Rattle.std.proofs.Common.{refl, sym, ◌∙◌, arith}
+use Rattle.std.proofs.Common.{refl, ◌∙◌, arith}
 use Rattle.crc.specs.Crc.{crc_of}
-use Rattle.crc.proofs.Laws.{crc-next}
+use Rattle.crc.proofs.Laws.{four_more}
 use Rattle.crc.proofs.crc16.Goals as goal
 
-pub loop-i-init : goal.loop-i-init
+pub loop-rest-init : goal.loop-rest-init
 unfolding crc_of
-loop-i-init c = (omega arith, refl)
+loop-rest-init c = refl
 
-pub loop-i-preserved : goal.loop-i-preserved
-loop-i-preserved c =
-    (omega arith, rw c.next_four-crc.ensures (sym (crc-next 4 c.loop-i.i c.loop-i.crc c.args.s.now) ∙ c.loop-i.invariant.1))
-
-pub returns : goal.returns
-returns c = c.last_bytes.ensures ∙ c.loop-i.invariant.1
+pub loop-rest-preserved : goal.loop-rest-preserved
+loop-rest-preserved c = rw c.next_four-crc.ensures (four_more c.loop-rest.crc c.loop-rest.rest.now (omega arith) ∙ c.loop-rest.invariant)

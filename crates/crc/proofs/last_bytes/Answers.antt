@@ -1,10 +1,11 @@
--- `crc::last_bytes`: the rest of the bytes, after the sum so far, gives what all of them do.
-use Rattle.std.proofs.Common.{sym, ◌∙◌, arith}
-use Rattle.crc.proofs.Laws.{crc-turn, crc-done}
+-- `crc::last_bytes`: byte by byte.
+use Rattle.std.proofs.Common.{rules, ◌≡◌, ◌∙◌}
+use Rattle.std.specs.Prelude.{fold}
+use Rattle.crc.specs.Crc.{byte_step}
+use Rattle.crc.proofs.Laws.{crc_by_bytes}
 use Rattle.crc.proofs.last_bytes.Goals as goal
 
-pub loop-i-preserved : goal.loop-i-preserved
-loop-i-preserved c = rw c.one_byte-sum.ensures (sym (crc-turn c.args.s.now c.loop-i.i c.loop-i.sum (omega arith)) ∙ c.loop-i.invariant)
-
 pub returns : goal.returns
-returns c = crc-done _ _ _ _ c.loop-i-test.false c.loop-i.invariant
+returns c =
+    let e : c.fold.result ≡ fold byte_step c.args.crc c.args.bytes.now = search rules in
+    e ∙ crc_by_bytes _ _

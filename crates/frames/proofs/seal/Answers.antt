@@ -10,7 +10,7 @@ returns c =
     let a = c.args in
     let part = ap (λ (k : ℕ). crc_of (take k (drop 5 a.buf.now))) {x = a.n + 5 - 5} {y = a.n} (omega arith) in
     sealed a.buf.now _ _ _ c.put-a.result c.put-b.result _
-    a.n c.crc16-sum.result (omega arith) (omega arith) (c.crc16-sum.ensures ∙ part) c.put-a.ensures c.put-b.ensures c.put.ensures
+    a.n c.from.result (omega arith) (omega arith) (c.from.ensures ∙ c.crc16-sum.ensures ∙ part) c.put-a.ensures c.put-b.ensures c.put.ensures
 
 -- longer than a frame can say, and past the buffer's end
 pub returns-then-n-gt65535 : goal.returns-then-n-gt65535

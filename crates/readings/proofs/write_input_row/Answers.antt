@@ -2,16 +2,15 @@
 -- the calls ensure.
 use mathlib.Core.Path.{◌≡◌}
 use mathlib.Core.Bool.{Bool}
-use mathlib.Core.List.{List}
-use Prim.Native.Nat.{ℕ}
-use Rattle.laws.specs.Put.{Wrote}
 use Rattle.records.specs.declared.Input.{Input}
+use Rattle.writers.specs.declared.Writer.{Writer}
+use Rattle.writers.specs.Writing.{Wrote}
 use Rattle.alarms.specs.Alarms.{alarm_above}
 use Rattle.readings.specs.Readings.{readings, input_row}
 use Rattle.readings.proofs.write_input_row.Goals as goal
 
-by-rule : (i : Input) {one two : Bool} {at p : ℕ} {o₀ o : List ℕ} → Wrote at (readings i one two) o₀ o p
-    → one ≡ alarm_above i.count i.setpoint_one → two ≡ alarm_above i.count i.setpoint_two → Wrote at (input_row i) o₀ o p
+by-rule : (i : Input) {one two : Bool} {w₀ w : Writer} → Wrote (readings i one two) w₀ w
+    → one ≡ alarm_above i.count i.setpoint_one → two ≡ alarm_above i.count i.setpoint_two → Wrote (input_row i) w₀ w
 unfolding input_row
 by-rule i w e f = rw (e, f) at w
 

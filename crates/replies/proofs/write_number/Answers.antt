@@ -1,14 +1,11 @@
--- `replies::write_number`: a byte, and a number behind it.
-use native.Mathlib.Omega.{arith}
-use lib.ListN.{length-set}
-use Rattle.laws.proofs.Put.{then}
-use Rattle.words.proofs.Laws.{stored, length-bytes_of}
-use Rattle.writers.proofs.Sending.{sent, unsent, byte_of}
+-- `replies::write_number`: the type, and the number behind it.
+use Rattle.std.proofs.Common.{refl, rules, arith}
+use Rattle.writers.proofs.Sending.{unsent}
+use Rattle.writers.proofs.Writing.{then, sent}
 use Rattle.replies.proofs.write_number.Goals as goal
 
-pub returns-then-out-room : goal.returns-then-out-room
-returns-then-out-room c = unsent c.if-out-room.true
+pub returns-then-out-number : goal.returns-then-out-number
+returns-then-out-number c = unsent (omega arith)
 
 pub returns : goal.returns
-returns c = let a = c.args in sent c.if-out-room.false
-    (then (byte_of 0 a.kind _ (omega arith)) (stored (simp (length-set, length-bytes_of) (omega arith)) c.put.ensures))
+returns c = sent (omega arith) (omega arith) c.new-writer.ensures.bytes c.new-writer.ensures.place (then c.u8.ensures c.bytes.ensures) (search rules) refl

@@ -1,8 +1,8 @@
 -- `serving::follows`: the Monitor message was asked for, or something else.
 use mathlib.Core.Path.{◌≡◌, refl, sym}
 use mathlib.Core.Bool.{Bool, false}
-use Rattle.judges.specs.declared.Order.{Order}
-use Rattle.judges.specs.declared.Order.TheVariants.{Monitor}
+use Rattle.orders.specs.declared.Order.{Order}
+use Rattle.orders.specs.declared.Order.TheVariants.{Monitor}
 use Rattle.serving.specs.Obeying.{follows_it}
 use Rattle.serving.proofs.Following.{monitor-or}
 use Rattle.serving.proofs.follows.Goals as goal

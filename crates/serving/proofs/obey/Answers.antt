@@ -10,4 +10,4 @@ returns-in-PulseRelay c = rw c.in-PulseRelay.is (quiet (relay-silent _ _ _) c.pu
 
 pub returns-in-PulseBlock : goal.returns-in-PulseBlock
 unfolding obeyed
-returns-in-PulseBlock c = rw (c.in-PulseBlock.is, ← c.block_pulse.ensures) (quiet (pulse-silent _ _) c.pulse.ensures)
+returns-in-PulseBlock c = rw (c.in-PulseBlock.is, ← c.block-in-PulseBlock.ensures) (quiet (pulse-silent _ _) c.pulse.ensures)

@@ -1,9 +1,0 @@
--- `pulses::ends_within`: runs, or not.
-use borrow.Author.Tests.{lt-ltb, le-ltb}
-use Rattle.pulses.proofs.ends_within.Goals as goal
-
-pub returns-then-q-gt0 : goal.returns-then-q-gt0
-returns-then-q-gt0 c = rw (lt-ltb _ _ c.if-q-gt0.true, c.last.ensures)
-
-pub returns-else-q-gt0 : goal.returns-else-q-gt0
-returns-else-q-gt0 c = rw (le-ltb _ _ c.if-q-gt0.false)
