@@ -36,12 +36,17 @@ def code(crate):
     return [read(path) for path in glob.glob("crates/%s/src/**/*.rt" % crate, recursive=True)]
 
 
+def conversions(crate):
+    """Each `impl From<B> for A`, by the name that the prover gives it, AFromB."""
+    return ["%sFrom%s" % (to, of) for text in code(crate) for of, to in re.findall(r"(?m)^impl From<(\w+)> for (\w+) \{$", text)]
+
+
 def public(crate):
-    return [name for text in code(crate) for name in re.findall(r"(?m)^\s*pub (?:extern \"C\" )?fn (\w+)", text)]
+    return [name for text in code(crate) for name in re.findall(r"(?m)^\s*pub (?:extern \"C\" )?fn (\w+)", text)] + conversions(crate)
 
 
 def has_function(crate, name):
-    return any(re.search(r"\bfn %s\b" % name, text) for text in code(crate))
+    return name in conversions(crate) or any(re.search(r"\bfn %s\b" % name, text) for text in code(crate))
 
 
 crates = sorted(os.path.basename(p) for p in glob.glob("crates/*") if os.path.isdir(p))
@@ -102,7 +107,7 @@ for line in re.findall(r'traces: ((?:"[^"]+"(?:, )?)+)', trace):
 
 # ---- CONTRACTS
 
-LABEL = r"`(?:([a-z]+)/)?([a-z][a-z0-9_]*)`"
+LABEL = r"`(?:([a-z]+)/)?([a-z][a-z0-9_]*|[A-Z]\w*From[A-Z]\w*)`"
 TRIED_AS = r"[Tt]ried as `[\w/]+`(?:, `[\w/]+`)*"
 
 

@@ -2,11 +2,15 @@
 """Holds docs/READING.md and what it says of the sources to the sources.
 
 - Every file of specs/ stands there with the lines that a reader must believe (blank lines, comments and imports aside), and their total.
-- No public function has a `requires`, and each has an `ensures`.
+- No public function has a `requires`, and each has an `ensures`; a conversion `From` counts as one, and its `from_gives` as its ensures.
+- A library crate has methods, `From` and `Model`, and no other trait, whose functions and conditions none of this would see. Programs may have some.
+- No public type of a library crate has a public field beside a fact that it keeps, a ghost field or its `Model`'s invariant: who writes such a field
+  owes the fact. FIELDS_THAT_OWE has those that there are.
 - Every public function has its uniqueness lemma, in a file Unique*.antt of some crate's proofs/: its premises are the function's own contract
   twice, and its conclusion equates all that the function's parameters and result say it gives back or leaves in what it was lent.
 - No antt file has an axiom or a hole.
-- No line of a source is over 160 characters, but for those that tests/long_lines.txt still counts.
+- No line of a source is over 160 characters, but for those that tests/long_lines.txt still counts, and for attributes, which the toolchain's
+  layout keeps in one line.
 
 Each of these is first tried on copies that are wrong, so that it is known to see. Prints what is wrong and exits 1, or one line.
 
@@ -44,6 +48,20 @@ def crate_of(path):
     return path.split("/")[1]
 
 
+def is_library(files, crate):
+    """Whether a crate is a library; the others are programs."""
+    return "crates/%s/src/lib.rt" % crate in files
+
+
+def libraries(files):
+    """The code of each library crate."""
+    code = {}
+    for path, text in sorted(files.items()):
+        if path.endswith(".rt") and is_library(files, crate_of(path)):
+            code[crate_of(path)] = code.get(crate_of(path), "") + text
+    return code
+
+
 # ---- the lines that must be believed
 
 def believed(text):
@@ -71,28 +89,36 @@ def page_faults(files, page):
 # ---- the public functions
 
 class Function:
-    """A public function by its source: what it is lent as `&mut`, by its place among the parameters, and whether it gives something back."""
+    """A public function by its source: what it is lent as `&mut`, by its place among the parameters, and whether it gives something back. A method
+    has its type before its name, and `From::from` counts as one; holders are the structs that hold lent bytes, with their fields."""
 
-    def __init__(self, crate, name, head):
+    def __init__(self, crate, name, head, holders=None):
         self.crate, self.name, self.head = crate, name, head
         signature = re.match(r"(?s)\s*(?:<[^>]*>)?\s*\((.*?)\)\s*(?:->\s*(.*?))?\s*(?:requires\b.*|ensures\b.*|\Z)", head)
-        parameters = [p for p in split_outside(signature[1], ",") if p.strip()]
-        self.lent = [k for k, p in enumerate(parameters) if re.match(r"&(?:'\w+ )?mut\b", p.split(":", 1)[1].strip())]
+        parameters = [p.strip() for p in split_outside(signature[1], ",") if p.strip()]
         self.result = (signature[2] or "").strip()
+        self.fields = (holders or {}).get(name.split("::")[0])
+        self.method = any(re.search(r"\bself$", p) for p in parameters[:1])
+        kept = "'a" if self.fields and self.result == "Self" else None  # what is lent so long stands in the result
+        kinds = [p if re.search(r"\bself$", p) else p.split(":", 1)[1].strip() for p in parameters]
+        self.lent = [k for k, m in enumerate(re.match(r"&(?:('\w+) )?mut\b", kind) for kind in kinds) if m and (not kept or m[1] != kept)]
 
     def full(self):
         return "%s::%s" % (self.crate, self.name)
 
     def owed(self):
-        """The equations that a uniqueness lemma owes: of the answer, and of what is lent, the k-th parameter at `.1` k times and `.0`."""
-        equations = set()
+        """The equations that a uniqueness lemma owes: of the answer, and of what is lent, the k-th parameter at `.1` k times and `.0`. Of a struct
+        that holds lent bytes they are those of its fields, for whose bytes `.now` stands."""
+        def equations(place, of_holder):
+            return {"%s%s ≡ %s%s" % (place, field, place.replace(place[0], place[0] + "'", 1), field) for field in (self.fields if of_holder else [""])}
+
+        owed = set()
         if self.result:
             of = ".now" if self.result.startswith("&") else ""
-            equations.add("r%s ≡ r'%s" % (of, of))
+            owed |= equations("r" + of, self.fields and self.result == "Self")
         for k in self.lent:
-            place = ".1" * k + ".0.now"
-            equations.add("s%s ≡ s'%s" % (place, place))
-        return equations
+            owed |= equations("s" + ".1" * k + ".0.now", self.fields and self.method and k == 0)
+        return owed
 
 
 def split_outside(text, mark):
@@ -108,9 +134,39 @@ def split_outside(text, mark):
     return parts + [part]
 
 
+def holders_of(text):
+    """The structs of a source that hold lent bytes: each field by its name, that of the bytes with `.now` behind it; ghost fields aside."""
+    holders = {}
+    for name, body in re.findall(r"(?ms)^pub struct (\w+)<'a> \{\n(.*?)^\}", text):
+        fields = re.findall(r"(?m)^    (?:pub )?(\w+): (.*),$", body)
+        if any(kind.startswith("&'a mut ") for _, kind in fields):
+            holders[name] = ["." + field + (".now" if kind.startswith("&") else "") for field, kind in fields]
+    return holders
+
+
+def impls_of(text):
+    """Each impl block of a source: where it begins and ends, what a conversion `From` converts, the type, and what stands inside."""
+    return [(m.start(), m.end(), m[1], m[2], m[3]) for m in re.finditer(
+        r"(?ms)^impl(?:<[^>\n]*>)? (?:(?:From<(\w+)>|[\w:]+(?:<[^\n]*>)?) for )?(\w+)(?:<[^\n]*?>)? \{\n(.*?)^\}", text)]
+
+
 def public_functions(files):
-    return [Function(crate_of(path), name, head) for path, text in files.items() if path.endswith(".rt")
-            for name, head in re.findall(r"(?ms)^\s*pub (?:extern \"C\" )?fn (\w+)(.*?)(?:^\s*| )\{$", text)]
+    """The public functions and methods, and the conversions `From` of libraries, which whoever has the types can call."""
+    found = []
+    for path, text in files.items():
+        if not path.endswith(".rt"):
+            continue
+        holders = holders_of(text)
+        impls = impls_of(text)
+        for m in re.finditer(r"(?ms)^ *pub (?:(?:const|async|unsafe) )*(?:extern \"C\" )?fn (\w+)(.*?)(?:^\s*| )\{$", text):
+            within = [kind for start, end, _, kind, _ in impls if start < m.start() < end]
+            found.append(Function(crate_of(path), "::".join(within + [m[1]]), m[2], holders))
+        for _, _, source, kind, body in impls:
+            if source and is_library(files, crate_of(path)):
+                head = re.search(r"(?s)\bfn from(\(.*?)\s*\{", body)[1]
+                promise = " ensures from_gives" if re.search(r"(?m)^    ghost from_gives = ", body) else ""
+                found.append(Function(crate_of(path), "%sFrom%s::from" % (kind, source), head + promise, holders))
+    return found
 
 
 def promise_faults(functions):
@@ -119,8 +175,42 @@ def promise_faults(functions):
         if re.search(r"\brequires\b", f.head):
             faults.append("%s counts on its caller: it has a requires" % f.full())
         if not re.search(r"\bensures\b", f.head):
-            faults.append("%s promises nothing: it has no ensures" % f.full())
+            faults.append("%s promises nothing: it has no %s" % (f.full(), "from_gives" if f.name.endswith("::from") else "ensures"))
     return faults
+
+
+# ---- what would be seen by none of this
+
+IMPL = r"impl(?:<[^>]*>)? (?:(?:From<\w+>|Model) for )?\w+(?:<[^>]*>)? \{"
+
+
+def trait_faults(files):
+    """In library crates: every impl but of methods, `From` and `Model`, every trait and macro of their own, and other things by those two names.
+    What derives write is no text, and the toolchain's own."""
+    return ["%s has %r: a library has methods, From and Model, and no other trait" % (crate, line.strip())
+            for crate, text in libraries(files).items()
+            for line in re.findall(r"(?m)^(?! *//).*\b(?:impl|trait|macro_rules|as From|as Model)\b.*|^\w+!.*", text)
+            if not re.fullmatch(IMPL, line)]
+
+
+# The public fields of types that keep a fact, and why each may be public.
+FIELDS_THAT_OWE = {
+    "writers::Writer.at": "who writes it owes at ≤ length out; callers read it, and none writes it",
+}
+
+
+def type_faults(files):
+    """Each public field beside a fact that its type keeps, if the list has it not; and what the list has and is no such field."""
+    found = set()
+    for crate, text in libraries(files).items():
+        held = {kind for _, _, _, kind, body in impls_of(text) if re.search(r"(?m)^    ghost invariant\b", body)}
+        for _, kind, body in re.findall(r"(?ms)^( *)pub struct (\w+)([^;{(]*;|[^;{(]*\(.*?\)[^;{]*;|.*?^\1\})", text):
+            if kind in held or re.search(r"(?m)^ *(?:pub )?ghost \w+:", body):
+                fields = re.findall(r"(?m)^ *pub (\w+):", body) + re.findall(r"[(,]\s*pub (\S+?)[,)]", body)     # of a tuple the field's type
+                found |= {"%s::%s.%s" % (crate, kind, field) for field in fields}
+    listed = set(FIELDS_THAT_OWE)
+    return (["%s can be written, and its type keeps a fact: that is a condition on the caller" % field for field in sorted(found - listed)]
+            + ["FIELDS_THAT_OWE has %s, which is no public field of a type that keeps a fact" % field for field in sorted(listed - found)])
 
 
 # ---- the uniqueness lemmas
@@ -156,11 +246,11 @@ def generated_lemmas(files):
     for path, text in files.items():
         if not re.match(r"crates/\w+/proofs/Unique\w*\.antt$", path) or not means_it(text):
             continue
-        for crate, function, alias in re.findall(r"(?m)^use Rattle\.(\w+)\.proofs\.(\w+)\.Reads as (\S+)$", text):
+        for crate, function, alias in re.findall(r"(?m)^use Rattle\.(\w+)\.proofs\.((?:\w+\.)?\w+)\.Reads as (\S+)$", text):
             start = GENERATED % (alias, alias)
             for _, statement, alone in signatures(text):
                 if alone and statement.startswith(start):
-                    lemmas[crate, function] = statement[len(start):]
+                    lemmas[crate, function.replace(".", "::")] = statement[len(start):]
     return lemmas
 
 
@@ -199,7 +289,7 @@ def axiom_faults(files):
 # ---- lines
 
 def long_lines(files):
-    counts = {path: sum(len(l) > LONGEST for l in text.split("\n")) for path, text in files.items()}
+    counts = {path: sum(len(l) > LONGEST and not l.lstrip().startswith("#[tactic(") for l in text.split("\n")) for path, text in files.items()}
     return {path: n for path, n in sorted(counts.items()) if n}
 
 
@@ -239,7 +329,15 @@ def blind(files, allowed):
     words, seal, capi = "crates/words/proofs/Unique.antt", "crates/frames/proofs/Unique.antt", "crates/capi/proofs/Unique.antt"
     take = "take.Post κs a r s → take.Post κs a r' s' → r ≡ r'"
     sealed = "seal.Post κs a r s → seal.Post κs a r' s' → (r ≡ r') × (s.0.now ≡ s'.0.now)"
+    wrote = "bytes.Post κs a r s → bytes.Post κs a r' s' → (s.0.now.out.now ≡ s'.0.now.out.now) ×\n    (s.0.now.at ≡ s'.0.now.at)"
     bare = "pub fn bare(v: u8) -> u8%s{\n    v\n}\n\npub fn seal("
+    records, devices, layouts = "crates/records/src/lib.rt", "crates/devices/src/lib.rt", "crates/layouts/src/lib.rt"
+    writers, pieces = "crates/writers/src/lib.rt", "crates/pieces/src/lib.rt"
+    gives = "    ghost from_gives = { λ %s. %s };\n\n"
+    queue, device = "impl From<Row> for Queue {\n", "impl Device {\n"
+    other = "impl From<u8> for Queue {\n%s    fn from(v: u8) -> Queue {\n        Queue::from([0; 8])\n    }\n}\n\n" + queue
+    tried = "impl TryFrom<u64> for Device {\n    fn try_from(id: u64) -> Result<Self, ()> {\n        Err(())\n    }\n}\n\n" + device
+    read, written, answer = "    content: &'a [u8],\n    %sat: usize,\n", "    %sout: &'a mut [u8],\n    %sat: usize,\n", "    pub answer: u64,\n"
     passed = "pass.Post κs a r s → pass.Post κs a r' s' → (r ≡ r') × (s.0.now ≡ s'.0.now)"
     copies = [
         ("a lemma that concludes r ≡ r", words, take, take[:-1], unique),
@@ -251,11 +349,24 @@ def blind(files, allowed):
         ("a lemma that is not there", words, "pub unique-take :", "pub lemma-take :", unique),
         ("a lemma of the boundary without the board", capi, passed, passed.split(" × ")[0], unique),
         ("a lemma of the boundary on two calls", capi, passed, passed.replace("κs a r' s'", "κs b r' s'"), unique),
+        ("a method's lemma that is not there", "crates/layouts/proofs/Unique.antt", "pub unique-u16 :", "pub lemma-u16 :", unique),
+        ("a conversion's lemma that is not there", "crates/records/proofs/Unique.antt", "pub unique-input-in :", "pub lemma-input-in :", unique),
+        ("a lemma on a writer without its place", "crates/writers/proofs/Unique.antt", wrote, wrote.split(" ×")[0], unique),
         ("an equality of one's own", words, "{◌≡◌, ", "{", unique),
         ("a function that is lent more", "crates/frames/src/lib.rt", "pub fn seal(", "pub fn seal(more: &mut [u8], ", unique),
         ("a function that promises nothing", "crates/frames/src/lib.rt", "pub fn seal(", bare % " ", promises),
         ("a function that counts on its caller", "crates/frames/src/lib.rt", "pub fn seal(",
          bare % "\n    requires { v ≤ 3 }\n    ensures { result ≡ v }\n", promises),
+        ("a conversion without from_gives", records, gives % ("row i", "i ≡ input_in row"), "", promises),
+        ("a conversion without from_gives, in front of one", records, queue, other % "", promises),
+        ("a conversion without a lemma, in front of one", records, queue, other % gives % ("v q", "q.first ≡ v"), unique),
+        ("a conversion that may fail", devices, device, tried, trait_faults),
+        ("a trait of one's own", devices, device, "pub trait Model {}\n\n" + device, trait_faults),
+        ("a macro that may write an impl", devices, device, "macro_rules! more {\n    () => {};\n}\n\n" + device, trait_faults),
+        ("a public field under an invariant", layouts, read % "", read % "pub ", type_faults),
+        ("a public field more over a ghost field", writers, written % ("", "pub "), written % ("pub ", "pub "), type_faults),
+        ("a ghost field under public ones", pieces, answer, answer + "    pub ghost small: { answer < 256 },\n", type_faults),
+        ("a list with a field that is private", writers, written % ("", "pub "), written % ("", ""), type_faults),
         ("an axiom", words, "\npub unique-take :", "\naxiom pub given : ⊥\n\npub unique-take :", axiom_faults),
         ("a hole", words, "unique-take κs a r r' s s' p q = p ∙ sym q", "unique-take κs a r r' s s' p q = ?", axiom_faults),
         ("a named hole", words, "unique-take κs a r r' s s' p q = p ∙ sym q", "unique-take κs a r r' s s' p q = ?h", axiom_faults),
@@ -276,7 +387,7 @@ def main():
         print("".join("%d %s\n" % (n, path) for path, n in long_lines(files).items()), end="")
         return 0
     wrong = page_faults(files, read("docs/READING.md")) + promise_faults(functions)
-    wrong += unique_faults(files, functions) + axiom_faults(files) + long_faults(files, allowed)
+    wrong += trait_faults(files) + type_faults(files) + unique_faults(files, functions) + axiom_faults(files) + long_faults(files, allowed)
     wrong += ["this check does not see %s" % what for what in blind(files, allowed)]
     for line in wrong:
         print("reading:", line)

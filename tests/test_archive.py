@@ -139,7 +139,7 @@ def exported():
     source = (ROOT / "crates" / archive.CRATE / "src/lib.rt").read_text()
     for name, takes, gives in re.findall(r'#\[unsafe\(no_mangle\)\]\npub extern "C" fn (\w+)\((.*?)\)(?: -> (\w+))?\s', source, re.S):
         kinds = []
-        for parameter in re.findall(r"\w+: ((?:&(?:mut )?\[+[^\]]*\][^,]*|\w+))", takes):
+        for parameter in [part.split(": ", 1)[1].strip() for part in takes.split(",") if part.strip()]:
             kinds += ["pointer", "u64"] if re.fullmatch(r"&(mut )?\[\w+\]", parameter) else ["pointer"] if parameter[0] == "&" else [parameter]
         found[name] = (kinds, gives or "void")
     return found
