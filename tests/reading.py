@@ -9,8 +9,7 @@
 - Every public function has its uniqueness lemma, in a file Unique*.antt of some crate's proofs/: its premises are the function's own contract
   twice, and its conclusion equates all that the function's parameters and result say it gives back or leaves in what it was lent.
 - No antt file has an axiom or a hole.
-- No line of a source is over 160 characters, but for those that tests/long_lines.txt still counts, and for attributes, which the toolchain's
-  layout keeps in one line.
+- No line of a source is over 160 characters, but for those that tests/long_lines.txt still counts.
 
 Each of these is first tried on copies that are wrong, so that it is known to see. Prints what is wrong and exits 1, or one line.
 
@@ -289,7 +288,7 @@ def axiom_faults(files):
 # ---- lines
 
 def long_lines(files):
-    counts = {path: sum(len(l) > LONGEST and not l.lstrip().startswith("#[tactic(") for l in text.split("\n")) for path, text in files.items()}
+    counts = {path: sum(len(l) > LONGEST for l in text.split("\n")) for path, text in files.items()}
     return {path: n for path, n in sorted(counts.items()) if n}
 
 
