@@ -58,6 +58,11 @@
 #include <stdint.h>
 #include <string.h>
 
+/* The calls write the answer as a word, of which a host reads the lowest byte, which is all of it. Where that byte is not the first there is no archive. */
+#if defined(__BYTE_ORDER__) && defined(__ORDER_LITTLE_ENDIAN__) && __BYTE_ORDER__ != __ORDER_LITTLE_ENDIAN__
+#error "the library is for machines that have the lowest byte of a word first"
+#endif
+
 #define WELLACORN_VERSION "1.0.0"   /* of the library and of the programs around it: the one place where it stands */
 
 /* A call whose answer a host must look at, or it loses bytes, replies or what it told. Compilers that know the word warn where it does not. */

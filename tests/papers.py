@@ -10,6 +10,7 @@ import glob
 import os
 import re
 import sys
+from collections import Counter
 
 from mutants import MUTANTS
 
@@ -170,9 +171,10 @@ for crate, text in sections:
     if crate not in crates:
         wrong.append("CONTRACTS: no crate %s" % crate)
         continue
-    for function in public(crate):
-        if not re.search(r"(?m)^\| `%s` \|" % function, text):
-            wrong.append("CONTRACTS: no row for %s::%s" % (crate, function))
+    rows = Counter(re.findall(r"(?m)^\| `(\w+)` \|", text))
+    for function, so_many in Counter(public(crate)).items():     # methods of two types may have one name
+        if rows[function] < so_many:
+            wrong.append("CONTRACTS: %d of the %d rows for %s::%s" % (rows[function], so_many, crate, function))
     for function in re.findall(r"(?m)^\| `(\w+)` \|", text):
         if not has_function(crate, function):
             wrong.append("CONTRACTS: no function %s::%s" % (crate, function))

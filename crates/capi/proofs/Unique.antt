@@ -17,21 +17,21 @@ pub unique-power-up : (κs : _) (a : _) (r r' : _) (s s' : _) → power-up.Post 
 unique-power-up κs a r r' s s' p q = p ∙ sym q
 
 pub unique-level : (κs : _) (a : _) (r r' : _) (s s' : _) → level.Post κs a r s → level.Post κs a r' s' → (r ≡ r') × (s.0.now ≡ s'.0.now)
-unique-level κs a r r' s s' p q = ends p q
+unique-level κs a r r' s s' p q = ends p.0 q.0
 
 pub unique-pass : (κs : _) (a : _) (r r' : _) (s s' : _) → pass.Post κs a r s → pass.Post κs a r' s' → (r ≡ r') × (s.0.now ≡ s'.0.now)
-unique-pass κs a r r' s s' p q = ends p q
+unique-pass κs a r r' s s' p q = ends p.0 q.0
 
 pub unique-pass-pulsed : (κs : _) (a : _) (r r' : _) (s s' : _) → pass-pulsed.Post κs a r s → pass-pulsed.Post κs a r' s' → (r ≡ r') × (s.0.now ≡ s'.0.now)
 unique-pass-pulsed κs a r r' s s' p q = let same = ends p q in (ap (λ (d : Done). d.answer) same.0, same.1)
 
 pub unique-connect : (κs : _) (a : _) (r r' : _) (s s' : _) → connect.Post κs a r s → connect.Post κs a r' s'
     → (r ≡ r') × (s.0.now ≡ s'.0.now) × (s.1.0.now ≡ s'.1.0.now)
-unique-connect κs a r r' s s' p q = halved a.1.1.0 a.1.0.now p q
+unique-connect κs a r r' s s' p q = halved a.1.1.0 a.1.0.now (p.0, p.1.0) (q.0, q.1.0)
 
 pub unique-close : (κs : _) (a : _) (r r' : _) (s s' : _) → close.Post κs a r s → close.Post κs a r' s'
     → (r ≡ r') × (s.0.now ≡ s'.0.now) × (s.1.0.now ≡ s'.1.0.now)
-unique-close κs a r r' s s' p q = halved a.1.1.0 a.1.0.now p q
+unique-close κs a r r' s s' p q = halved a.1.1.0 a.1.0.now (p.0, p.1.0) (q.0, q.1.0)
 
 -- an answer, and all that is lent, after the call: board, half-read messages, their room, the row of pulses and the reply buffer
 pub unique-bytes : (κs : _) (a : _) (r r' : _) (s s' : _) → bytes.Post κs a r s → bytes.Post κs a r' s'
@@ -39,16 +39,16 @@ pub unique-bytes : (κs : _) (a : _) (r r' : _) (s s' : _) → bytes.Post κs a 
     (s.1.1.1.1.1.1.0.now ≡ s'.1.1.1.1.1.1.0.now)
 unique-bytes κs a r r' s s' p q =
     let same = answers p.0 q.0 in
-    (same.0, same.1, p.1.0 ∙ sym q.1.0, p.1.1.0 ∙ sym q.1.1.0, p.1.1.1 ∙ sym q.1.1.1, same.2)
+    (same.0, same.1, p.1.0 ∙ sym q.1.0, p.1.1.0 ∙ sym q.1.1.0, p.1.1.1.0 ∙ sym q.1.1.1.0, same.2)
 
 pub unique-collect : (κs : _) (a : _) (r r' : _) (s s' : _) → collect.Post κs a r s → collect.Post κs a r' s'
     → (r ≡ r') × (s.0.now ≡ s'.0.now) × (s.1.1.0.now ≡ s'.1.1.0.now)
-unique-collect κs a r r' s s' p q = answers p q
+unique-collect κs a r r' s s' p q = answers p.0 q.0
 
 pub unique-fill : (κs : _) (a : _) (r r' : _) (s s' : _) → fill.Post κs a r s → fill.Post κs a r' s' → (r ≡ r') × (s.0.now ≡ s'.0.now)
-unique-fill κs a r r' s s' p q = ends p q
+unique-fill κs a r r' s s' p q = ends p.0 q.0
 
 -- an answer, the board and the row, after the call
 pub unique-empty : (κs : _) (a : _) (r r' : _) (s s' : _) → empty.Post κs a r s → empty.Post κs a r' s'
     → (r ≡ r') × (s.0.now ≡ s'.0.now) × (s.1.0.now ≡ s'.1.0.now)
-unique-empty κs a r r' s s' p q = let same = ends p.0 q.0 in (same.0, same.1, p.1 ∙ sym q.1)
+unique-empty κs a r r' s s' p q = let same = ends p.0 q.0 in (same.0, same.1, p.1.0 ∙ sym q.1.0)

@@ -1,10 +1,11 @@
 // The C boundary: one thin exported function for each entry point, under the names of host/wellacorn.h.
-// Board, halves and rooms go as pointers, a slice as pointer and length, settings and what a call came to by value. Into the lent row of pulses
-// the crate lent alone looks. The contract of a function is that of what it calls, but where time passes or a place is emptied.
+// Board, halves and rooms go as pointers, a slice as pointer and length, settings and what a call came to by value. The lent row of pulses is seen
+// here and in the crate lent alone: what the board needs of it goes by value. Where no row is lent the contract is the board's own. C reads the
+// answer as the lowest byte of its word, and each contract says that this is all of it.
 
 #![tactic(auto)]
 
-ghost use Rattle.std.specs.Prelude.{◌≡◌, length};
+ghost use Rattle.std.specs.Prelude.{◌≡◌, ◌<◌, length};
 ghost use Rattle.ring.specs.Ring.{row_after};
 ghost use Rattle.powerup.specs.PowerUp.{powered_up};
 ghost use Rattle.halves.specs.Halves.{dropped};
@@ -29,7 +30,8 @@ pub extern "C" fn wellacorn_power_up(board: &mut Board, s: Settings)
 // Input k is told its level, 0 or 1.
 #[unsafe(no_mangle)]
 pub extern "C" fn wellacorn_level(board: &mut Board, k: u8, v: u8) -> Done
-    ensures { Ends (level_call k v board.old) board.new result }
+    ensures ends { Ends (level_call k v board.old) board.new result }
+    ensures byte { result.answer < 256 }
 {
     board::level(board, k, v)
 }
@@ -37,7 +39,8 @@ pub extern "C" fn wellacorn_level(board: &mut Board, k: u8, v: u8) -> Done
 // d ms have passed. Where no pulse ends in them the row is not looked into.
 #[unsafe(no_mangle)]
 pub extern "C" fn wellacorn_pass(board: &mut Board, row: &[Pulse], d: u32) -> Done
-    ensures { Ends (pass_call d row.now board.old) board.new result }
+    ensures ends { Ends (pass_call d row.now board.old) board.new result }
+    ensures byte { result.answer < 256 }
 {
     let answer = match pulses::at_once(board, row.len(), d) {
         Err(refusal) => refusal.number(),
@@ -80,6 +83,7 @@ pub extern "C" fn wellacorn_connect(
 ) -> Done
     ensures ends { Ends (connect_call c rank strict board.old) board.new result }
     ensures halves_after { halves.new ≡ dropped c result.answer halves.old }
+    ensures byte { result.answer < 256 }
 {
     board::connect(board, halves, c, rank, strict)
 }
@@ -89,6 +93,7 @@ pub extern "C" fn wellacorn_connect(
 pub extern "C" fn wellacorn_close(board: &mut Board, halves: &mut [[u64; 3]; 4], c: u8) -> Done
     ensures ends { Ends (close_call c board.old) board.new result }
     ensures halves_after { halves.new ≡ dropped c result.answer halves.old }
+    ensures byte { result.answer < 256 }
 {
     board::close(board, halves, c)
 }
@@ -108,14 +113,20 @@ pub extern "C" fn wellacorn_bytes(
     ensures halves_after { halves.new ≡ halves_after c piece.now (length reply.old) (length row.old) board.old halves.old rooms.old }
     ensures rooms_after { rooms.new ≡ rooms_after c piece.now (length reply.old) (length row.old) board.old halves.old rooms.old }
     ensures row_after { row.new ≡ row_after board.old (bytes_call c piece.now (length reply.old) (length row.old) board.old halves.old rooms.old).did.board row.old }
+    ensures byte { result.answer < 256 }
 {
-    board::bytes(board, halves, rooms, row, c, piece, reply)
+    let taken = board::bytes(board, halves, rooms, row.len(), c, piece, reply);
+    if let Some(place) = taken.at {
+        lent::put_pulse(row, place, taken.pulse);
+    }
+    taken.done
 }
 
 // What is due is collected on connection c.
 #[unsafe(no_mangle)]
 pub extern "C" fn wellacorn_collect(board: &mut Board, c: u8, reply: &mut [u8]) -> Done
-    ensures { Answers (collect_call c (length reply.old) board.old) board.new reply.old reply.new result }
+    ensures answers { Answers (collect_call c (length reply.old) board.old) board.new reply.old reply.new result }
+    ensures byte { result.answer < 256 }
 {
     board::collect(board, c, reply)
 }
@@ -123,7 +134,8 @@ pub extern "C" fn wellacorn_collect(board: &mut Board, c: u8, reply: &mut [u8]) 
 // A place of the second deck is filled. Of the row its length is asked, and no record is looked at.
 #[unsafe(no_mangle)]
 pub extern "C" fn wellacorn_fill(board: &mut Board, row: &[Pulse], place: u8) -> Done
-    ensures { Ends (fill_call place (length row.now) board.old) board.new result }
+    ensures ends { Ends (fill_call place (length row.now) board.old) board.new result }
+    ensures byte { result.answer < 256 }
 {
     board::fill(board, row.len(), place)
 }
@@ -133,6 +145,7 @@ pub extern "C" fn wellacorn_fill(board: &mut Board, row: &[Pulse], place: u8) ->
 pub extern "C" fn wellacorn_empty(board: &mut Board, row: &mut [Pulse], place: u8) -> Done
     ensures ends { Ends (empty_call place (length row.old) board.old) board.new result }
     ensures row_after { row.new ≡ row_emptied place board.old row.old }
+    ensures byte { result.answer < 256 }
 {
     let records = row.len();
     let q = board.queue();

@@ -1,7 +1,7 @@
 -- A byte of the input: what ends a line, what is kept, and the loop over the bytes of a read.
 use mathlib.Core.Path.{◌≡◌, refl, sym, ap, ◌∙◌}
 use mathlib.Core.List.{List, [], ◌∷◌, ◌++◌, append-nil, append_assoc}
-use Prim.Native.Nat.{ℕ, ◌+◌, ◌*◌, ◌/◌, ◌%◌, ◌≤◌, ◌<◌, min, zero-le}
+use Prim.Native.Nat.{ℕ, ◌+◌, ◌*◌, ◌≤◌, ◌<◌, min, zero-le}
 use native.Mathlib.Nat.{add-zero}
 use native.Mathlib.Omega.{arith}
 use native.Mathlib.Numerals.{add-one}
@@ -23,24 +23,16 @@ use Rattle.console.specs.Lines.{shown}
 use Rattle.console.specs.Console.{Held, held, so_far, line_held, ended, step, says, run, said}
 use Rattle.console.proofs.Feeding.{FedLine}
 
--- of an answer two digits are shown
-shown-low : (answer bits : ℕ) → shown_of (answer % 256) bits ≡ shown_of answer bits
-unfolding shown_of
-shown-low answer bits =
-    let high : answer % 256 / 16 % 16 ≡ answer / 16 % 16 = omega arith in
-    let low : answer % 256 / 1 % 16 ≡ answer / 1 % 16 = omega arith in
-    rw (high, low)
-
 module _ (h : Held) (len : ℕ) where
   -- the line's part of the store is fed, and its answer written
   pub line-ended : (d : Done) (b : Board) (hs : Halves) (rooms reply text out out' : List ℕ) (bits len' : ℕ)
       → FedLine (so_far h) h.board h.halves h.rooms h.reply b hs rooms reply d
-      → bits ≡ relay_bits (all_relays b) → text ≡ shown_of (d.answer % 256) bits → Stored len text out out' len' → len + 7 ≤ length out
+      → bits ≡ relay_bits (all_relays b) → text ≡ shown_of d.answer bits → Stored len text out out' len' → len + 7 ≤ length out
       → (held b hs rooms h.line 0 reply ≡ ended h) × Wrote len (shown (line_held h)) out out' len'
   unfolding ended shown shown_of
   line-ended d b hs rooms reply text out out' bits len' f e t w fits =
       let long : length text ≡ 7 = ap length t in
-      let shows : text ≡ shown (line_held h) = t ∙ shown-low d.answer bits ∙ rw (e, f.0.gives, f.0.board) in
+      let shows : text ≡ shown (line_held h) = t ∙ rw (e, f.0.gives, f.0.board) in
       (rw (f.0.board, f.1.0, f.1.1, f.0.leaves), rw shows at (stored (omega arith) w))
 
 -- where nothing is said, nothing is written

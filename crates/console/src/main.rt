@@ -6,14 +6,13 @@
 
 #![tactic(auto)]
 
-ghost use Rattle.std.specs.Prelude.{◌≡◌, ◌+◌, ◌≤◌, length, replicate, take};
+ghost use Rattle.std.specs.Prelude.{◌≡◌, ◌+◌, ◌≤◌, ◌<◌, length, replicate, take};
 ghost use Rattle.laws.specs.Put.{Wrote};
 ghost use Rattle.pieces.specs.Effects.{Answers};
 ghost use Rattle.console.specs.Lines.{started, started_halves, line_halves, line_rooms, shown};
 
 use pieces::Done;
 use powerup::{InputSettings, Settings};
-use ring::Pulse;
 use rows::{Board, ROWS};
 use std::io::{Read, Write};
 
@@ -38,6 +37,9 @@ impl Console {
     fn start() -> Console
         ensures board_after { result.board ≡ started }
         ensures halves_after { result.halves ≡ started_halves (replicate 4 (replicate 3 0)) }
+        ensures rooms_after { result.rooms ≡ replicate 4096 0 }
+        ensures line_after { result.line ≡ replicate 2059 0 }
+        ensures reply_after { result.reply ≡ replicate 4096 0 }
         ensures empty_line { result.used ≡ 0 }
     {
         let mut board = Board {
@@ -71,25 +73,28 @@ impl Console {
     // ---- lines out of the input
 
     // The line's effect. The reply is written at the front of the reply buffer and goes nowhere: the console prints its answer number alone.
-    // No time passes on the console, so that no record of a row of pulses is ever read: each line has a row of its own, and none is kept.
+    // No time passes on the console, so that no record of a row of pulses is ever read: it is told 31 records, and keeps none.
     fn feed_line(&mut self) -> Done
         ensures answers { Answers (line_held (held_of self.old)) self.new.board self.old.reply self.new.reply result }
         ensures halves_after { self.new.halves ≡ line_halves (so_far (held_of self.old)) self.old.board self.old.halves self.old.rooms }
         ensures rooms_after { self.new.rooms ≡ line_rooms (so_far (held_of self.old)) self.old.board self.old.halves self.old.rooms }
         ensures line_after { (self.new.line ≡ self.old.line) × (self.new.used ≡ self.old.used) }
+        ensures byte { result.answer < 256 }
     {
         let mut piece = [0; 1029];
-        let mut row = [Pulse::default(); 31];
         match hexadecimal::parse(&self.line[..self.used], &mut piece) {
-            Some(count) => board::bytes(
-                &mut self.board,
-                &mut self.halves,
-                &mut self.rooms,
-                &mut row,
-                0,
-                &piece[..count],
-                &mut self.reply,
-            ),
+            Some(count) => {
+                board::bytes(
+                    &mut self.board,
+                    &mut self.halves,
+                    &mut self.rooms,
+                    31,
+                    0,
+                    &piece[..count],
+                    &mut self.reply,
+                )
+                .done
+            }
             // FF is printed for a bad line: no answer of the box, and so no name of the crate numbers
             None => Done {
                 taken: 0,
@@ -108,7 +113,7 @@ impl Console {
     {
         let done = self.feed_line();
         self.used = 0;
-        let answer = (done.answer % 256) as u8; // all of it: the answer numbers are below 256
+        let answer = done.answer as u8; // all of it
         let text = hexadecimal::digits(answer, hexadecimal::relay_number(&self.board));
         copying::copy(out, at, &text)
     }

@@ -22,7 +22,8 @@ use steps::{Half, Outcome};
 
 // What a call came to: the bytes taken of a piece, the reply's length, the place of the first byte of a content that is missing or left over,
 // where that is why it is refused (else 0), and the answer number. The number has a whole word, of which the host reads the lowest byte, the first
-// on its machines: a struct with a gap is copied by words that overlap, and the next load waits for them.
+// on its machines: a struct with a gap is copied by words that overlap, and the next load waits for them. That this byte is all of it stands in the
+// contract of every function that gives a Done.
 #[repr(C)]
 #[derive(Clone, Copy, Debug, PartialEq, Eq)]
 pub struct Done {
@@ -34,7 +35,8 @@ pub struct Done {
 
 // What the plain machine gave back, and the bytes taken.
 pub fn finish(s: Served, taken: usize) -> Done
-    ensures { result ≡ made_of s taken }
+    ensures value { result ≡ made_of s taken }
+    ensures byte { result.answer < 256 }
 {
     Done {
         taken,
@@ -103,6 +105,7 @@ fn take_bytes(
     ensures answers { Answers (fed_call c (fed c piece.now halves.old rooms.old) board.old) board.new reply.old reply.new result }
     ensures halves_after { halves.new ≡ put_half c (half_after (fed c piece.now halves.old rooms.old).fed.outcome) halves.old }
     ensures rooms_after { rooms.new ≡ put_room c (fed c piece.now halves.old rooms.old).room rooms.old }
+    ensures byte { result.answer < 256 }
 {
     let at = c as usize;
     let fed = feed_part(rooms, at, halves::half_at(halves, at), piece);
@@ -131,6 +134,7 @@ pub fn give_bytes(
     ensures answers { Answers (bytes_call c piece.now (length reply.old) records board.old halves.old rooms.old) board.new reply.old reply.new result }
     ensures halves_after { halves.new ≡ halves_after c piece.now (length reply.old) records board.old halves.old rooms.old }
     ensures rooms_after { rooms.new ≡ rooms_after c piece.now (length reply.old) records board.old halves.old rooms.old }
+    ensures byte { result.answer < 256 }
 {
     if !connections::is_open(board, c) {
         return finish(answers::refused(Refusal::NoConnection), 0);

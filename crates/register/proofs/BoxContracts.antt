@@ -107,7 +107,7 @@ contract-power-up κs a r s p hs rooms row = rw p
 pub contract-level : (κs : _) (a : _) (r : _) (s : _) → level.Post κs a r s → (hs : Halves) (rooms : List ℕ) (row : List Pulse)
     → box_call (held a.0.now hs rooms row) (calls.other (box.level a.1.0 a.1.1.0)) ≡ step_of s.0.now hs rooms row r (calls.did (read_of r []))
 unfolding level_call leveled
-contract-level κs a r s p hs rooms row = rw (p.gives, p.board)
+contract-level κs a r s p hs rooms row = rw (p.0.gives, p.0.board)
 
 time-silent : (d : ℕ) (row : List Pulse) (b : Board) → (time_passed d row b).reply ≡ []
 unfolding time_passed
@@ -126,7 +126,7 @@ contract-connect κs a r s p rooms row =
     let b : Board = a.0.now in
     let silent : (connected a.1.1.0 a.1.1.1.0 a.1.1.1.1.0 b).reply ≡ [] =
     connect-cases a.1.1.0 b a.1.1.1.0 a.1.1.1.1.0 (λ d. d.reply ≡ []) refl refl refl (λ u. refl) in
-    rw (p.1, p.0.gives, p.0.board, unread (connected a.1.1.0 a.1.1.1.0 a.1.1.1.1.0 b) silent)
+    rw (p.1.0, p.0.gives, p.0.board, unread (connected a.1.1.0 a.1.1.1.0 a.1.1.1.1.0 b) silent)
 
 pub contract-close : (κs : _) (a : _) (r : _) (s : _) → close.Post κs a r s → (rooms : List ℕ) (row : List Pulse)
     → box_call (held a.0.now a.1.0.now rooms row) (calls.other (box.close a.1.1.0))
@@ -135,7 +135,7 @@ unfolding close_call
 contract-close κs a r s p rooms row =
     let b : Board = a.0.now in
     let silent : (closed a.1.1.0 b).reply ≡ [] = close-cases a.1.1.0 b (λ d. d.reply ≡ []) refl (λ u. refl) in
-    rw (p.1, p.0.gives, p.0.board, unread (closed a.1.1.0 b) silent)
+    rw (p.1.0, p.0.gives, p.0.board, unread (closed a.1.1.0 b) silent)
 
 pub contract-collect : (κs : _) (a : _) (r : _) (s : _) → collect.Post κs a r s → (hs : Halves) (rooms : List ℕ) (row : List Pulse)
     → box_call (held a.0.now hs rooms row) (calls.other (box.collect a.1.0 (length a.1.1.0.now)))
@@ -144,7 +144,7 @@ unfolding collect_call
 contract-collect κs a r s p hs rooms row =
     let b : Board = a.0.now in
     let o : List ℕ = a.1.1.0.now in
-    rw (read_back (collect_call a.1.0 (length o) b) s.0.now o s.1.1.0.now r p (collect-fits a.1.0 b o), p.gives, p.board)
+    rw (read_back (collect_call a.1.0 (length o) b) s.0.now o s.1.1.0.now r p.0 (collect-fits a.1.0 b o), p.0.gives, p.0.board)
 
 -- of a place: board, halves, rooms and row
 pub contract-fill : (place : ℕ) (row : List Pulse) (b b' : Board) (r : Done) → Ends (fill_call place (length row) b) b' r → (hs : Halves) (rooms : List ℕ)

@@ -6,7 +6,6 @@
 use pieces::Done;
 use powerup::{InputSettings, Settings};
 use refusals::Refusal;
-use ring::Pulse;
 use rows::{Board, ROWS};
 use std::{fmt, io};
 use steps::{Half, Outcome};
@@ -274,17 +273,18 @@ impl<'a, R: Print> Trial<'a, R> {
         self.show(name, done)
     }
 
-    // A piece of connection c, and its reply. No time passes here, so that no row of pulses is kept.
+    // A piece of connection c, and its reply. No time passes here, so that no row of pulses is kept: it is told 31 records.
     fn offer(&mut self, c: u8, bytes: &[u8], reply: &mut [u8]) -> Done {
         board::bytes(
             &mut self.board,
             &mut self.halves,
             &mut self.rooms,
-            &mut [Pulse::default(); 31],
+            31,
             c,
             bytes,
             reply,
         )
+        .done
     }
 
     // The same with a reply buffer of 4,096 bytes, shown.

@@ -19,9 +19,10 @@ pub returns-in-Waiting : goal.returns-in-Waiting
 returns-in-Waiting c = let a = c.args in let ρ : Run = fed a.c a.piece.now a.halves.now a.rooms.now in
     let e = fed-as a.c a.piece.now a.halves.now a.rooms.now c.half_at.ensures c.feed_part-fed.ensures in
     record {
-      answers = quietly a.c ρ a.board.now e.0 c.in-Waiting.is refl (rw c.no_reply.ensures at c.finish.ensures);
+      answers = quietly a.c ρ a.board.now e.0 c.in-Waiting.is refl (rw c.no_reply.ensures at c.finish.ensures.value);
       halves_after = c.keep_half.ensures ∙ rw e.0;
       rooms_after = e.1;
+      byte = c.finish.ensures.byte;
     }
 
 -- a keep-alive
@@ -29,9 +30,10 @@ pub returns-in-KeepAlive : goal.returns-in-KeepAlive
 returns-in-KeepAlive c = let a = c.args in let ρ : Run = fed a.c a.piece.now a.halves.now a.rooms.now in
     let e = fed-as a.c a.piece.now a.halves.now a.rooms.now c.half_at.ensures c.feed_part-fed.ensures in
     record {
-      answers = quietly a.c ρ a.board.now e.0 c.in-KeepAlive.is refl (rw c.no_reply-in-KeepAlive.ensures at c.finish-in-KeepAlive.ensures);
+      answers = quietly a.c ρ a.board.now e.0 c.in-KeepAlive.is refl (rw c.no_reply-in-KeepAlive.ensures at c.finish-in-KeepAlive.ensures.value);
       halves_after = c.keep_half.ensures ∙ rw e.0;
       rooms_after = e.1;
+      byte = c.finish-in-KeepAlive.ensures.byte;
     }
 
 -- a stray byte
@@ -39,9 +41,10 @@ pub returns-in-Stray : goal.returns-in-Stray
 returns-in-Stray c = let a = c.args in let ρ : Run = fed a.c a.piece.now a.halves.now a.rooms.now in
     let e = fed-as a.c a.piece.now a.halves.now a.rooms.now c.half_at.ensures c.feed_part-fed.ensures in
     record {
-      answers = quietly a.c ρ a.board.now e.0 c.in-Stray.is refl (rw c.no_reply-in-Stray.ensures at c.finish-in-Stray.ensures);
+      answers = quietly a.c ρ a.board.now e.0 c.in-Stray.is refl (rw c.no_reply-in-Stray.ensures at c.finish-in-Stray.ensures.value);
       halves_after = c.keep_half.ensures ∙ rw e.0;
       rooms_after = e.1;
+      byte = c.finish-in-Stray.ensures.byte;
     }
 
 -- a message has ended: it is judged from the room as `feed` left it
@@ -54,7 +57,8 @@ returns-in-Message c = let a = c.args in let ρ : Run = fed a.c a.piece.now a.ha
     let again = room-again a.c ρ.room a.rooms.now below c.requires.1 long in
     let w = rw (e.1, again) at c.judge_part.ensures in
     record {
-      answers = ended_by a.c ρ a.board.now e.0 c.in-Message.is w c.finish-in-Message.ensures;
+      answers = ended_by a.c ρ a.board.now e.0 c.in-Message.is w c.finish-in-Message.ensures.value;
       halves_after = c.keep_half.ensures ∙ rw e.0;
       rooms_after = e.1;
+      byte = c.finish-in-Message.ensures.byte;
     }

@@ -8,4 +8,11 @@ pub returns : goal.returns
 unfolding started started_halves
 returns c =
     let e = rw c.power_up.ensures at c.connect.ensures.ends in
-    record { board_after = e.board; halves_after = c.connect.ensures.halves_after ∙ rw (e.gives, opened); empty_line = refl }
+    record {
+      board_after = e.board;
+      halves_after = c.connect.ensures.halves_after ∙ rw (e.gives, opened);
+      rooms_after = refl;
+      line_after = refl;
+      reply_after = refl;
+      empty_line = refl;
+    }

@@ -1,4 +1,4 @@
--- The row after a call of bytes: what `ring::seat` says of the place, and `lent::put_pulse` of the row, together.
+-- The row after a call of bytes: what `board::bytes` says of the place and the pulse, and `lent::put_pulse` of the row, together.
 use mathlib.Core.Path.{◌≡◌}
 use mathlib.Core.List.{List}
 use Prim.Native.Nat.{ℕ}
@@ -6,7 +6,6 @@ use lib.Dec.{ltb}
 use lib.ListN.{set}
 use Rattle.std.specs.Prelude.{Option, Some, None}
 use Rattle.laws.proofs.Tests.{by_cases}
-use Rattle.records.specs.declared.Queue.{Queue}
 use Rattle.rows.specs.Places.{Board, queue_of}
 use Rattle.ring.specs.declared.Pulse.{Pulse}
 use Rattle.ring.specs.Ring.{seat_of, newest, row_after}
@@ -20,6 +19,6 @@ at-seat : (b b' : Board) (row : List Pulse) → stored_at (seat_of (queue_of b) 
 unfolding row_after seat_of
 at-seat b b' row = by_cases (ltb (queue_of b).standing (queue_of b').standing) (λ t. rw t) (λ f. rw f)
 
-pub stored : (b b' d : Board) (row : List Pulse) (place : Option ℕ) (before after : Queue) → before ≡ queue_of b → after ≡ queue_of b' → b' ≡ d
-    → place ≡ seat_of before after → stored_at place (newest b') row ≡ row_after b d row
-stored b b' d row place before after is-before is-after same is_place = rw (is_place, is-before, is-after, same) (at-seat b d row)
+pub stored : (b b' : Board) (row : List Pulse) (place : Option ℕ) → place ≡ seat_of (queue_of b) (queue_of b')
+    → stored_at place (newest b') row ≡ row_after b b' row
+stored b b' row place is_place = rw is_place (at-seat b b' row)
