@@ -1,22 +1,57 @@
--- Fields that a reader takes off the front of a content, each where the one before it ended.
+-- Fields that a reader takes off the front of a content, each where the one before it ended; and what is left behind a place.
 --     field-at      a field's number, 0 where it is not there whole, is that of its place
 --     past-onward   behind a field a reader stands so many bytes further on, or at the content's end
 --     fields-off    so fields taken one behind the other stand one behind the other
+--     drop-onward, rest-onward, rest-of-new    what lies behind a place that is kept within the content is what lies behind the place itself
+--     number-drop   a number in what is left behind a place stands that much further on in the content
 use mathlib.Core.Path.{◌≡◌, refl, sym, ap, ◌∙◌}
 use mathlib.Core.Bool.{Bool, true, false, ◌&&◌, cond}
 use mathlib.Core.List.{List, [], ◌∷◌}
-use Prim.Native.Nat.{ℕ, zero, suc, ◌+◌, ◌<◌}
-use native.Mathlib.Nat.{min-eq_left, min-eq_right, add_assoc}
+use Prim.Native.Nat.{ℕ, zero, suc, ◌+◌, ◌-◌, ◌≤◌, ◌<◌}
+use native.Mathlib.Nat.{le_refl, min-eq_left, min-eq_right, add_assoc}
 use native.Mathlib.Omega.{arith}
-use borrow.Author.Tests.{leb-true, leb-false}
+use borrow.Author.Tests.{le-leb, lt-leb, leb-true, leb-false}
 use lib.Dec.{leb}
-use lib.ListN.{length}
+use lib.ListN.{length, take, drop, length-drop, drop_of_length-le}
+use lib.Seq.{drop-drop, take_all}
 use Rattle.std.specs.Result.{result_unwrap_or}
 use Rattle.laws.proofs.Tests.{by_cases}
 use Rattle.words.specs.Words.{fits, field_of, number_at}
 use Rattle.words.proofs.Laws.{fits-no}
 use Rattle.layouts.specs.Layouts.{onward}
 use Rattle.layouts.specs.Fields.{onward_of, past, field_off, fields_of}
+
+-- a test on a sum, with a part of it on the other side
+leb-shift : (p a l : ℕ) → p ≤ l → leb a (l - p) ≡ leb (p + a) l
+leb-shift p a l h =
+    by_cases (leb (p + a) l)
+    (λ t. rw t (le-leb a (l - p) (omega (arith, leb-true (p + a) l t))))
+    (λ f. rw f (lt-leb a (l - p) (omega (arith, leb-false (p + a) l f))))
+
+-- a number in the rest behind place p is the number p further on
+pub number-drop : (s : List ℕ) (p i n : ℕ) → p ≤ length s → number_at (drop p s) i n ≡ number_at s (p + i) n
+unfolding number_at fits
+number-drop s p i n h = rw (length-drop, drop-drop, leb-shift p (i + n) (length s) h, ← add_assoc)
+
+-- what lies behind a place that is kept within the list
+pub drop-onward : (s : List ℕ) (at by : ℕ) → drop (onward_of s at by) s ≡ drop (at + by) s
+drop-onward s at by =
+    by_cases (leb (at + by) (length s))
+    (λ t. ap (λ (p : ℕ). drop p s) (min-eq_left (leb-true (at + by) (length s) t)))
+    (λ f.
+    let l : length s < at + by = leb-false (at + by) (length s) f in
+    let e : onward_of s at by ≡ length s = min-eq_right {n = length s} {m = at + by} (omega arith) in
+    drop_of_length-le s {i = onward_of s at by} (omega arith) ∙ sym (drop_of_length-le s {i = at + by} (omega arith)))
+
+-- the same as a part of a lent slice
+pub rest-onward : (s : List ℕ) (at by p : ℕ) → p ≡ onward_of s at by → take (length s - p) (drop p s) ≡ drop (at + by) s
+rest-onward s at by p e = take_all (length s - p) (drop p s) (rw length-drop (le_refl (length s - p))) ∙ ap (λ (i : ℕ). drop i s) e ∙ drop-onward s at by
+
+-- so what a new reader of any place has left is what lies behind that place, also where it is past the content's end
+pub rest-of-new : (s left : List ℕ) (at : ℕ) (reader : List ℕ × ℕ) → reader ≡ (s, onward_of s at 0) → left ≡ drop reader.1 reader.0 → left ≡ drop at s
+rest-of-new s left at reader new rest =
+    let front : at + 0 ≡ at = omega arith in
+    rest ∙ ap (λ (r : List ℕ × ℕ). drop r.1 r.0) new ∙ drop-onward s at 0 ∙ ap (λ (p : ℕ). drop p s) front
 
 -- past the end there is no number
 number_past : (s : List ℕ) (at n : ℕ) → length s < at + n → number_at s at n ≡ 0
@@ -42,7 +77,8 @@ number-onward s at by n h =
     number_past s (onward_of s at by) n (rw (min-eq_right {n = length s} {m = at + by} (omega arith)) (omega arith)) ∙ sym (number_past s (at + by) n
     (omega arith)))
 
-number_behind : (s : List ℕ) (at by n : ℕ) → number_at s (onward_of s at by) n ≡ number_at s (at + by) n
+-- a field behind another is there where the other's bytes end, be it whole or not
+pub number_behind : (s : List ℕ) (at by n : ℕ) → number_at s (onward_of s at by) n ≡ number_at s (at + by) n
 number_behind s at by zero = number-none s (onward_of s at by) ∙ sym (number-none s (at + by))
 number_behind s at by (suc n) = number-onward s at by (suc n) (omega arith)
 
