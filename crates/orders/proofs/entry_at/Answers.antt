@@ -24,4 +24,4 @@ returns c =
     rw (c.unwrap_or-state.ensures, c.u8-2.ensures.value, c.ahead.ensures, four) (field-at s at 11 1) in
     let count : c.unwrap_or-count.result ≡ number_at s (at + 11) 4 = rw (c.unwrap_or-count.ensures, c.u32.ensures.value, four) (field-at s at 11 4) in
     let next : c.min-next.result ≡ onward_of s at (10 + number_at s (at + 8) 2) = omega arith in
-    rw (id, size, flags, count, state, next)
+    simp (id, size, flags, count, state, next)
