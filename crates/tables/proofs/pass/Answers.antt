@@ -10,6 +10,5 @@ loop-row-preserved c = search (rules, map_over_more (usage_passed c.args.d))
 
 pub returns : goal.returns
 returns c =
-    let t = c.saturating_add-time in
     c.set_clock.ensures
-    ∙ rows-passed c.board.view_is c.loop-row-test.false c.loop-row.invariant c.clock.ensures c.clock.type_inv c.from.ensures t.ensures
+    ∙ rows-passed c.board.view_is c.loop-row-test.false c.loop-row.invariant c.clock.ensures c.clock.type_inv c.from.ensures (search rules)
