@@ -9,4 +9,4 @@ returns c =
     let a = c.args in
     let flags = rw (c.from-alarm.ensures, c.alarm_state.ensures, c.from.ensures, c.from-2.ensures, c.from-3.ensures) at c.bytes.ensures in
     let bytes = rw c.to_be_bytes-count.ensures at flags in
-    rw div-one (rw (byte-when a.i.level, byte-when (alarm_state a.i), byte-when a.one, byte-when a.two) at bytes)
+    rw div-one (rw (byte-when (alarm_state a.i), byte-when a.one, byte-when a.two, byte-when _) at bytes)

@@ -1,14 +1,15 @@
 -- `writes::apply`: what the entries that are left do to what is done so far is what all of them do to the tables.
-use mathlib.Core.Path.{◌≡◌, refl, sym, ap, ◌∙◌}
-use Prim.Native.Nat.{◌-◌}
+use mathlib.Core.Path.{sym, ap, ◌∙◌}
+use mathlib.Core.Bool.{false}
+use Prim.Native.Nat.{ℕ}
 use native.Mathlib.Omega.{arith}
 use Rattle.writes.specs.declared.Written.{Written}
-use Rattle.writes.specs.Writes.{Entered, so_far}
+use Rattle.writes.specs.Writes.{Entered, so_far, written_from}
 use Rattle.writes.proofs.Turns.{one_more, entry-turn, entries-end}
 use Rattle.writes.proofs.apply.Goals as goal
 
 pub loop-init : goal.loop-init
-loop-init c = let e : c.args.count - 0 ≡ c.args.count = omega arith in (rw e refl, omega arith)
+loop-init c = let a = c.args in (ap (λ (n : ℕ). written_from a.content.now 3 n (so_far a.board.now 0 false)) (omega arith), omega arith)
 
 pub note-requires : goal.note-requires
 note-requires c = omega (arith, c.loop.invariant.1, c.loop-test.true, c.ranges.count)
