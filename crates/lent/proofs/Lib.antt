@@ -1,1 +1,3 @@
+pub mod Losing
+pub mod Places
 pub mod Unique

@@ -6,7 +6,7 @@
 --     begins-at-end     02, M-100, 2: the next begins at the end of the one before, in the same ms, behind the growing of clock and usage
 --     ends_last         02, M-100, 2: where none is next, none begins
 --     refused           02, M-100, 7: where 31 stand, `pulses::push` refuses, whose number is 14, and changes nothing
---     taken_in          02, M-100, 7: where fewer stand, it refuses nothing, and the pulse is accepted
+--     taken_in          02, M-100, 7: where fewer stand, it refuses nothing, which is answered 1, and the pulse is accepted
 --     at-most-31        02, M-100, 2: where 31 stand at most, so it is behind any ms and any request
 --     place-again       02, M-100, 2: behind an end of a full queue there is room, and the request goes to the place that was freed
 --     place-low         02, M-100, 5: every place is one of the row's first 31 (in Ring)
@@ -30,7 +30,7 @@ use lib.Pow.{pow_pos, pow-lt}
 use borrow.Author.Tests.{ltb-true, ltb-false, leb-false, le-leb, lt-leb, lt-ltb, le-ltb, eq-eqb, ne_eqb, eqb-true, eqb-false}
 use Rattle.std.specs.Prelude.{Some, Ok, Err}
 use Rattle.refusals.specs.declared.Refusal.TheVariants.{ShortBuffer, QueueFull}
-use Rattle.refusals.specs.Refusals.{number_of}
+use Rattle.refusals.specs.Refusals.{number_of, answer_of}
 use Rattle.laws.specs.Times.{times}
 use Rattle.laws.proofs.Flow.{times-add}
 use Rattle.laws.proofs.Tests.{by_cases, and_left}
@@ -141,10 +141,11 @@ refused κs a r s post h =
     (rw t at post.1, refl, rw t at post.0)
 
 pub taken_in : (κs : _) (a : _) (r : _) (s : _) → push.Post κs a r s → (queue_of a.0.now).standing < 31
-    → (r ≡ Ok tt) × (s.0.now ≡ accepted a.1.0 a.0.now)
+    → (r ≡ Ok tt) × (answer_of r ≡ 1) × (s.0.now ≡ accepted a.1.0 a.0.now)
 taken_in κs a r s post h =
     let t : is_full (queue_of a.0.now) ≡ false = lt-leb 31 (queue_of a.0.now).standing h in
-    (rw t at post.1, rw t at post.0)
+    let served : r ≡ Ok tt = rw t at post.1 in
+    (served, ap answer_of served, rw t at post.0)
 
 -- ---- at most 31
 
