@@ -11,5 +11,5 @@ loop-input_or_relay-preserved c = search (rules, map_over_more (usage_passed c.a
 pub returns : goal.returns
 returns c =
     c.set_clock.ensures
-    ∙ rows-passed c.board.view_is c.loop-input_or_relay-test.false c.loop-input_or_relay.invariant
-    c.clock.ensures c.clock.type_inv c.from.ensures (search rules)
+    ∙ rows-passed c.board.view_is c.loop-input_or_relay-test.false c.loop-input_or_relay.invariant c.clock.ensures c.clock.type_inv c.from.ensures
+    (search rules)
